@@ -1,0 +1,16 @@
+pub mod Contents
+pub mod Values
+pub mod Puts
+pub mod Gets
+pub mod Visibility
+pub mod Flushes
+pub mod Durability
+pub mod Cache
+pub mod Writes
+pub mod Eviction
+pub mod Window
+pub mod AccessRules
+pub mod CachePolicy
+pub mod States
+pub mod Soundness
+pub mod Passes
