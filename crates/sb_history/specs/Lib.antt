@@ -14,3 +14,6 @@ pub mod CachePolicy
 pub mod States
 pub mod Soundness
 pub mod Passes
+pub mod Requests
+pub mod ClockTrace
+pub mod Laws
