@@ -10,7 +10,7 @@ use Rattle.sb_base.specs.declared.entry.Entry.{Entry}
 use Rattle.sb_world.specs.declared.link.Call.{Call}
 use Rattle.sb_world.specs.declared.link.Meta.{Meta}
 use Rattle.sb_world.specs.declared.clock.Tick.{Tick}
-use Rattle.sb_history.specs.Contents.{Start, FillBlocks, part_bytes}
+use Rattle.sb_history.specs.Contents.{Start, part_bytes}
 use Rattle.sb_history.specs.Values.{IsLegal, values_since, is_written}
 use Rattle.sb_history.specs.Puts.{puts_of}
 use Rattle.sb_history.specs.Gets.{Fetch, fetch_of}
@@ -22,7 +22,7 @@ use Rattle.sb_history.specs.Window.{CoversDelays, answer_digest}
 use Rattle.sb_history.specs.AccessRules.{last_reading, CarriesPart, FollowsAccessRules}
 use Rattle.sb_history.specs.CachePolicy.{FollowsCachePolicy}
 use Rattle.sb_history.specs.States.{state_at, next_state}
-use Rattle.sb_history.specs.Soundness.{IsSoundHistory}
+use Rattle.sb_history.specs.Soundness.{IsSoundHistory, IsUnwindowed}
 use Rattle.sb_history.specs.Passes.{IsOfPass}
 use Rattle.sb_history.specs.Requests.{RequestLog}
 use Rattle.sb_history.specs.ClockTrace.{Caller, ClockTrace, NonePauses, OneReadingEach}
@@ -38,15 +38,6 @@ SoundFlushes = (geometry : Geometry) (settings : Settings) (found : Found) (star
 -- at each moment the store may come to hold only what each block held since the last flush that is done began
 abbrev pub SoundSurvivesCrash : Type 0
 SoundSurvivesCrash = (geometry : Geometry) (settings : Settings) (found : Found) (start : Start) (delays : Delays) (past : List Entry) → IsSoundHistory geometry settings found start delays past → IsCrashDurable start past
-
--- a disk without a window, which found nothing, over a store that shows the latest versions
-pub record IsUnwindowed (geometry : Geometry) (settings : Settings) (found : Found) (start : Start) (past : List Entry) : Type 0 where
-  pub sized : FillBlocks geometry.block_size start
-  pub off : settings.md5_size ≡ 0
-  pub nothing : (block : ℕ) → found.body block ≡ None
-  pub rules : FollowsAccessRules geometry settings found past
-  pub policy : FollowsCachePolicy geometry settings found past
-  pub latest : IsStaleWithin geometry.block_size start (record { order = 0; show = 0 }) past
 
 -- without a window reads are those of registers, whatever MD5s collide
 abbrev pub UnwindowedIsLegal : Type 0
@@ -116,13 +107,13 @@ StampsAreEpochs =
 -- the calls of two segments of a history are those of both, where each has its own
 abbrev pub RequestsJoin : Type 0
 RequestsJoin =
-    (name : ℕ → List ℕ) (meta : Option Meta) (earlier later : List Entry) (first then : List Call) → RequestLog name meta earlier first → RequestLog name meta later then → RequestLog name meta (later ++ earlier) (then ++ first)
+    (name : ℕ → List ℕ) (meta : Option Meta) (earlier later : List Entry) (first second : List Call) → RequestLog name meta earlier first → RequestLog name meta later second → RequestLog name meta (later ++ earlier) (second ++ first)
 
 -- the ticks of two segments of a history, the one behind the other, are those of both
 abbrev pub ClockTracesJoin : Type 0
 ClockTracesJoin =
-    (geometry : Geometry) (settings : Settings) (caller : Caller) (before earlier later : List Entry) (next : Option ℕ) (first then : List Tick)
-    → ClockTrace geometry settings caller before earlier None first → ClockTrace geometry settings caller (earlier ++ before) later next then → ClockTrace geometry settings caller before (later ++ earlier) next (then ++ first)
+    (geometry : Geometry) (settings : Settings) (caller : Caller) (before earlier later : List Entry) (next : Option ℕ) (first second : List Tick)
+    → ClockTrace geometry settings caller before earlier None first → ClockTrace geometry settings caller (earlier ++ before) later next second → ClockTrace geometry settings caller before (later ++ earlier) next (second ++ first)
 
 -- where no entry pauses, one reading for each is the trace
 abbrev pub PlainTraceHolds : Type 0

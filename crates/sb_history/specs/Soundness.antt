@@ -55,3 +55,12 @@ pub record IsSoundHistory (geometry : Geometry) (settings : Settings) (found : F
   pub policy : FollowsCachePolicy geometry settings found past
   pub stale_within : IsStaleWithin geometry.block_size start delays past
   pub collision_free : IsCollisionFree geometry.block_size start found past
+
+-- a disk without a window, which found nothing, over a store that shows the latest versions
+pub record IsUnwindowed (geometry : Geometry) (settings : Settings) (found : Found) (start : Start) (past : List Entry) : Type 0 where
+  pub sized : FillBlocks geometry.block_size start
+  pub off : settings.md5_size ≡ 0
+  pub nothing : (block : ℕ) → found.body block ≡ None
+  pub rules : FollowsAccessRules geometry settings found past
+  pub policy : FollowsCachePolicy geometry settings found past
+  pub latest : IsStaleWithin geometry.block_size start (record { order = 0; show = 0 }) past

@@ -1,0 +1,14 @@
+pub mod Held
+pub mod Phases
+pub mod Shown
+pub mod Blocks
+pub mod Law
+pub mod Settled
+pub mod Marks
+pub mod Rows
+pub mod After
+pub mod Table
+pub mod Epochs
+pub mod Smaller
+pub mod Joins
+pub mod Acked
