@@ -1,0 +1,5 @@
+pub mod Lines
+pub mod Shapes
+pub mod Ranges
+pub mod SettingsTable
+pub mod Sizes

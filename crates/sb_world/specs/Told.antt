@@ -1,0 +1,15 @@
+-- What an object of the outside tells, and when it may fail.
+use Rattle.std.specs.Prelude.{ℕ, ◌≡◌, ◌+◌, ◌-◌, ◌^◌, ◌≤◌, min, List, ◌++◌, Option, Some}
+
+-- where the list is told now, it was told before and has gained these since, the newest first
+pub record Gains {X : Type 0} (before now : Option (List X)) (gained : List X) : Type 0 where
+  pub told : (list : List X) → now ≡ Some list → (old : List X) × (before ≡ Some old) × (list ≡ gained ++ old)
+
+-- a count of faults rose, or stands at its end
+abbrev pub Rose : ℕ → ℕ → Type 0
+Rose before now = min (before + 1) (2 ^ 64 - 1) ≤ now
+
+-- a count of faults never falls, and rises where a call failed so
+pub record CountsFaults (before now : ℕ) (failed : Type 0) : Type 0 where
+  pub later : before ≤ now
+  pub rises : failed → Rose before now

@@ -1,0 +1,73 @@
+//! What a program is given.
+
+ghost use Rattle.std.specs.Prelude.{◌≡◌, ◌≤◌, ℕ, List, [], ◌∷◌, Option, IfOk, IfSome, IsErrOf, vec_len};
+ghost use Rattle.sb_world.specs.Told.{Gains, CountsFaults};
+ghost use Rattle.sb_world.specs.declared.world.Bench.{Bench};
+
+use crate::clock::Clock;
+use crate::link::Link;
+use crate::stream::{Sink, Source};
+
+/// What a program works with: its links to the store, a clock, where bytes come from and go to, and where a line about a
+/// fault goes.
+#[derive(Drop)]
+pub struct Bench<L, C, R, S> {
+    pub links: Vec<L>,
+    pub clock: C,
+    pub input: R,
+    pub output: S,
+    pub errors: S,
+}
+
+/// Why no bench was made.
+#[derive(Drop, Clone, Copy, PartialEq, Eq, Debug)]
+pub enum MakeFault {
+    /// The store can't be reached.
+    Store,
+    Memory,
+}
+
+/// What a program is given.
+pub trait World {
+    type Link: Link;
+
+    type Clock: Clock;
+
+    type Source: Source;
+
+    type Sink: Sink;
+
+    /// How often it has failed.
+    ghost faults: { Self → ℕ };
+
+    /// The bench that it hands out next, where it tells it.
+    ghost next: { Self → Option (Bench Self.Link Self.Clock Self.Source Self.Sink) };
+
+    /// The bench that was shut last, where it tells it.
+    ghost last: { Self → Option (Bench Self.Link Self.Clock Self.Source Self.Sink) };
+
+    /// The lines said so far, where it tells them.
+    ghost said: { Self → Option (List (List ℕ)) };
+
+    /// Makes a bench with so many links.
+    fn bench(
+        &mut self,
+        links: u32,
+    ) -> Result<Bench<Self::Link, Self::Clock, Self::Source, Self::Sink>, MakeFault>
+        ensures links { IfOk result (λ bench. vec_len bench.links ≡ links) }
+        ensures next { IfOk result (λ bench. IfSome (next self.old) (λ told. bench ≡ told)) }
+        ensures cause { CountsFaults (faults self.old) (faults self.new) (IsErrOf result MakeFault.Store) }
+        ensures frame { (last self.new ≡ last self.old) × (said self.new ≡ said self.old) };
+
+    /// Takes a bench back.
+    fn shut(&mut self, bench: Bench<Self::Link, Self::Clock, Self::Source, Self::Sink>)
+        ensures last { IfSome (last self.new) (λ told. told ≡ bench) }
+        ensures faults { faults self.old ≤ faults self.new }
+        ensures frame { said self.new ≡ said self.old };
+
+    /// Says a line on standard error. A fault of that is left unsaid.
+    fn say(&mut self, line: &[u8])
+        ensures told { Gains (said self.old) (said self.new) (line.now ∷ []) }
+        ensures faults { faults self.old ≤ faults self.new }
+        ensures frame { last self.new ≡ last self.old };
+}
