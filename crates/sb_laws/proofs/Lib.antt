@@ -5,10 +5,14 @@ pub mod Blocks
 pub mod Law
 pub mod Settled
 pub mod Marks
-pub mod Rows
 pub mod After
 pub mod Table
 pub mod Epochs
 pub mod Smaller
 pub mod Joins
 pub mod Acked
+pub mod StaleRows
+pub mod RefusedRow
+pub mod RaceRow
+pub mod ValueRows
+pub mod TraceRows

@@ -1,0 +1,40 @@
+-- The calls and the ticks of the worked histories.
+use Rattle.std.proofs.Common.{ℕ, ◌≡◌, ◌+◌, List, [], ◌∷◌, drop, ◌≢◌, ◌<◌, ◌≤◌, Option, Some, None, refl, inl, inr, arith}
+use Rattle.md5.specs.Md5.{md5}
+use Rattle.sb_world.specs.declared.link.LinkFault.TheVariants as fault
+use Rattle.sb_world.specs.declared.link.GetReply.TheVariants as reply
+use Rattle.sb_world.specs.declared.clock.Tick.TheVariants as tick
+use Rattle.sb_history.specs.Requests.{RequestLog}
+use Rattle.sb_history.specs.ClockTrace.{ClockTrace}
+use Rattle.sb_laws.specs.Histories.{a, b, c, tiny, spaced, shown_twice, spacing_awaited, failed_put_shown, zeros_flushed}
+use Rattle.sb_laws.specs.Traces.{name_of, sizes, alone, shown_twice_calls, failed_put_calls, zeros_calls, ticks_before_wait, failed_put_ticks, stalled_ticks}
+
+pub shown_twice_asks : RequestLog name_of (Some sizes) shown_twice shown_twice_calls
+shown_twice_asks = (
+  reply.Bytes b,
+  _,
+  refl,
+  refl,
+  (reply.Bytes a, _, refl, refl, (reply.Bytes a, _, refl, refl, (reply.Absent, _, refl, refl, (None, [], refl, refl, refl)))),
+)
+
+pub failed_put_asks : RequestLog name_of (Some sizes) failed_put_shown failed_put_calls
+failed_put_asks = (
+  reply.Bytes c,
+  _,
+  refl,
+  refl,
+  (reply.Bytes b, _, refl, refl, (reply.Absent, _, refl, refl, (None, _, refl, refl, (Some (fault.Failed 503), [], refl, refl, refl)))),
+)
+
+pub zeros_are_deleted : RequestLog name_of (Some sizes) zeros_flushed zeros_calls
+zeros_are_deleted = (None, [], refl, refl, refl)
+
+six_ticks : ClockTrace tiny spaced alone [] (drop 1 spacing_awaited) (Some 1000) (drop 1 ticks_before_wait)
+six_ticks = (1000, None, [], _, refl, refl, refl, refl, (1000, None, [], _, refl, refl, refl, refl, (1000, None, [], _, refl, refl, refl, refl, (1000, None, [], _, refl, refl, refl, refl, (1000, None, [], _, refl, refl, refl, refl, (1000, None, [], _, refl, refl, refl, refl, refl))))))
+
+pub failed_put_pauses : (md5 b ≢ md5 c) → ClockTrace tiny spaced alone [] failed_put_shown None failed_put_ticks
+failed_put_pauses differ = (1600, None, [], _, refl, refl, refl, refl, (1600, None, [], _, refl, refl, λ asked. asked.0 refl, refl, (1600, None, [], _, refl, refl, refl, refl, (1500, Some 100, tick.Paused 100 ∷ [], _, refl, refl, ((differ, omega arith), refl), inl (refl, omega arith), (1500, None, [], _, refl, refl, refl, refl, (1500, None, [], _, refl, refl, refl, refl, (1500, None, [], _, refl, refl, refl, refl, (1500, None, [], _, refl, refl, λ asked. asked, refl, (1500, None, [], _, refl, refl, refl, refl, (1500, None, [], _, refl, refl, refl, refl, (1500, None, [], _, refl, refl, refl, refl, (1500, None, [], _, refl, refl, refl, refl, (1500, None, [], _, refl, refl, refl, refl, (1000, Some 500, tick.Paused 500 ∷ [], _, refl, refl, refl, inl (refl, omega arith), six_ticks))))))))))))))
+
+pub stalled_takes_one_more : ClockTrace tiny spaced alone [] spacing_awaited None stalled_ticks
+stalled_takes_one_more = (1000, Some 500, tick.Taken 1000 ∷ tick.Paused 500 ∷ [], _, refl, refl, refl, inr (1000, omega arith, refl), six_ticks)
