@@ -12,7 +12,5 @@ pub mod Smaller
 pub mod Joins
 pub mod Acked
 pub mod StaleRows
-pub mod RefusedRow
-pub mod RaceRow
 pub mod ValueRows
 pub mod TraceRows

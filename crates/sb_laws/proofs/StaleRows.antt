@@ -7,23 +7,6 @@ use Rattle.sb_history.specs.Values.{IsLegal}
 use Rattle.sb_laws.specs.Histories.{both, a, b, c, a_at_0, b_flushed, start_shown, shown_twice, shown_for_good, failed_put_shown}
 use Rattle.sb_laws.proofs.Shown.{contained}
 
--- an old version shown twice
-pub shown_twice_within : IsStaleWithin 1 a_at_0 (both 101) shown_twice
-shown_twice_within = (tt, ((0, omega arith, refl), (tt, ((1, omega arith, refl), (tt, ((1, omega arith, refl), (tt, (tt, (tt, ((0, omega arith, refl), (tt, (tt, (tt, (tt, (tt, (tt, (tt, tt)))))))))))))))))
-
--- only b is visible
-only_b : Contains (b ∷ []) a → ⊥
-only_b has = let is : a ≡ b = contained (λ content. content ≡ b) a (b ∷ []) has.0 (refl, tt) has.1 has.2 in absurd (cc)
-
-only_c : Contains (c ∷ []) b → ⊥
-only_c has = let is : b ≡ c = contained (λ content. content ≡ c) b (c ∷ []) has.0 (refl, tt) has.1 has.2 in absurd (cc)
-
-pub shown_twice_not_within : IsStaleWithin 1 a_at_0 (both 100) shown_twice → ⊥
-shown_twice_not_within within = only_b within.1.1.1.0
-
-pub shown_twice_is_legal : IsLegal a_at_0 shown_twice
-shown_twice_is_legal = (refl, (tt, (tt, (tt, (tt, (tt, (tt, (tt, (refl, (tt, (tt, (tt, (tt, (tt, (tt, (tt, (tt, tt)))))))))))))))))
-
 -- an old version shown for good
 puts_stay : (n : ℕ) → puts_of (start_shown n) 0 ≡ puts_of b_flushed 0
 puts_stay zero = refl
@@ -44,16 +27,3 @@ start_shown_within (suc n) most = (rw (puts_stay n) (still_visible _ (1000 + n *
 
 pub shown_for_good_within : IsStaleWithin 1 a_at_0 (both 5001) shown_for_good
 shown_for_good_within = start_shown_within 51 (omega arith)
-
-pub shown_for_good_not_within : IsStaleWithin 1 a_at_0 (both 5000) shown_for_good → ⊥
-shown_for_good_not_within within = only_b within.0
-
--- a failed put shown late
-pub failed_put_within_1 : IsStaleWithin 1 a_at_0 (both 1) failed_put_shown
-failed_put_within_1 = (tt, ((0, omega arith, refl), (tt, ((1, omega arith, refl), (tt, (tt, (tt, ((0, omega arith, refl), (tt, (tt, (tt, (tt, (tt, (tt, (tt, (tt, (tt, (tt, (tt, (tt, tt))))))))))))))))))))
-
-pub failed_put_within_500 : IsStaleWithin 1 a_at_0 (both 500) failed_put_shown
-failed_put_within_500 = (tt, ((0, omega arith, refl), (tt, ((1, omega arith, refl), (tt, (tt, (tt, ((0, omega arith, refl), (tt, (tt, (tt, (tt, (tt, (tt, (tt, (tt, (tt, (tt, (tt, (tt, tt))))))))))))))))))))
-
-pub failed_put_not_within_0 : IsStaleWithin 1 a_at_0 (both 0) failed_put_shown → ⊥
-failed_put_not_within_0 within = only_c within.1.1.1.0

@@ -9,27 +9,6 @@ use Rattle.sb_history.specs.ClockTrace.{ClockTrace}
 use Rattle.sb_laws.specs.Histories.{a, b, c, tiny, spaced, shown_twice, spacing_awaited, failed_put_shown, zeros_flushed}
 use Rattle.sb_laws.specs.Traces.{name_of, sizes, alone, shown_twice_calls, failed_put_calls, zeros_calls, ticks_before_wait, failed_put_ticks, stalled_ticks}
 
-pub shown_twice_asks : RequestLog name_of (Some sizes) shown_twice shown_twice_calls
-shown_twice_asks = (
-  reply.Bytes b,
-  _,
-  refl,
-  refl,
-  (reply.Bytes a, _, refl, refl, (reply.Bytes a, _, refl, refl, (reply.Absent, _, refl, refl, (None, [], refl, refl, refl)))),
-)
-
-pub failed_put_asks : RequestLog name_of (Some sizes) failed_put_shown failed_put_calls
-failed_put_asks = (
-  reply.Bytes c,
-  _,
-  refl,
-  refl,
-  (reply.Bytes b, _, refl, refl, (reply.Absent, _, refl, refl, (None, _, refl, refl, (Some (fault.Failed 503), [], refl, refl, refl)))),
-)
-
-pub zeros_are_deleted : RequestLog name_of (Some sizes) zeros_flushed zeros_calls
-zeros_are_deleted = (None, [], refl, refl, refl)
-
 six_ticks : ClockTrace tiny spaced alone [] (drop 1 spacing_awaited) (Some 1000) (drop 1 ticks_before_wait)
 six_ticks = (1000, None, [], _, refl, refl, refl, refl, (1000, None, [], _, refl, refl, refl, refl, (1000, None, [], _, refl, refl, refl, refl, (1000, None, [], _, refl, refl, refl, refl, (1000, None, [], _, refl, refl, refl, refl, (1000, None, [], _, refl, refl, refl, refl, refl))))))
 
