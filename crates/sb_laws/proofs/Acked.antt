@@ -1,5 +1,5 @@
 -- What a put acknowledged last is what the store may come to hold.
-use Rattle.std.proofs.Common.{suc, ℕ, ◌≡◌, Bool, true, false, if◌then◌else◌, List, [], ◌∷◌, Contains, refl, arith}
+use Rattle.std.proofs.Common.{suc, ℕ, Bool, true, false, if◌then◌else◌, List, [], ◌∷◌, Contains, refl, arith}
 use Rattle.sb_history.specs.Puts.{Put, puts_of, is_acknowledged}
 use Rattle.sb_history.specs.Durability.{acked_of, possible_of}
 use Rattle.sb_history.specs.Laws.{AckedIsPossible}

@@ -16,11 +16,13 @@ use Rattle.sb_history.specs.Writes.{unacked_writes}
 use Rattle.sb_history.specs.Window.{expected}
 use Rattle.sb_history.specs.AccessRules.{last_reading}
 use Rattle.sb_history.specs.Laws.{StaleIsYoung, NextMountIsRecent}
+use Rattle.sb_laws.proofs.Blocks.{HeldSince, blocks_hold, held_now, sound_is_steady}
 use Rattle.sb_laws.proofs.Held.{Each}
-use Rattle.sb_laws.proofs.Phases.{EndedBy, Ordered, NewestOk, Phase, idle, getting, held, writing, Holds, remains}
-use Rattle.sb_laws.proofs.Shown.{young_or_only, shown_digest, YoungOrOnly}
-use Rattle.sb_laws.proofs.Blocks.{HeldSince, held_now, sound_is_steady, blocks_hold}
 use Rattle.sb_laws.proofs.Law.{cached_is, reads_latest, sound_survives_crash}
+use Rattle.sb_laws.proofs.Order.{EndedBy, Ordered}
+use Rattle.sb_laws.proofs.Phases.{Holds, NewestOk, Phase, getting, held, idle, writing}
+use Rattle.sb_laws.proofs.Shown.{YoungOrOnly, shown_digest, young_or_only}
+use Rattle.sb_laws.proofs.Steps.{remains}
 
 -- what is known of a GET that is open
 abbrev OpenGet : Delays → Settings → Fetch → List Put → List ℕ → List ℕ → Type 0

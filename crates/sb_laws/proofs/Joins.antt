@@ -1,5 +1,5 @@
 -- The calls and the ticks of two segments of a history are those of both.
-use Rattle.std.proofs.Common.{ℕ, ◌≡◌, ◌≢◌, ◌+◌, ◌<◌, ◌≤◌, ◌⊎◌, Bool, true, false, nat_eq, if◌then◌else◌, max, List, [], ◌∷◌, ◌++◌, Option, Some, None, is_none, refl, sym, ◌∙◌, ap, subst, inl, inr}
+use Rattle.std.proofs.Common.{ℕ, ◌≡◌, ◌+◌, Bool, true, false, nat_eq, if◌then◌else◌, max, List, [], ◌∷◌, ◌++◌, Option, Some, None, refl, sym, ◌∙◌, ap, subst, inl, inr}
 use Rattle.std.proofs.lemmas.Bool.{eq-eqb}
 use Rattle.sb_base.specs.declared.geometry.Geometry.{Geometry}
 use Rattle.sb_base.specs.declared.settings.Settings.{Settings}
@@ -12,8 +12,7 @@ use Rattle.sb_world.specs.declared.clock.Tick.{Tick}
 use Rattle.sb_world.specs.declared.clock.Tick.TheVariants as tick
 use Rattle.sb_history.specs.AccessRules.{last_reading}
 use Rattle.sb_history.specs.Requests.{put_content, put_content_after, meta_of, IsPutCall, IsCallOf, RequestLog}
-use Rattle.sb_history.specs.ClockTrace.{Caller, Reaches, FallsShort, PauseTicks, PausesAfter, IsTicked, IsTickedIf, ClockTrace, NonePauses, OneReadingEach}
-use Rattle.sb_history.specs.Passes.{IsOfPass}
+use Rattle.sb_history.specs.ClockTrace.{Caller, Reaches, PauseTicks, PausesAfter, IsTicked, IsTickedIf, ClockTrace}
 use Rattle.sb_history.specs.Laws.{RequestsJoin, ClockTracesJoin, PlainTraceHolds}
 
 -- a put that began in the later segment is that of both

@@ -20,10 +20,10 @@ use Rattle.sb_history.specs.Cache.{Found, cached_content, is_known_zero}
 use Rattle.sb_history.specs.Writes.{is_nil, unacked_writes, is_unstamped_by}
 use Rattle.sb_history.specs.AccessRules.{last_reading, NoneStamped, CarriesPart, EndsPut, BeginsPut, MayFollow}
 use Rattle.sb_history.specs.Laws.{SoundIsLegal, SoundFlushes, SoundSurvivesCrash, UnwindowedIsLegal, UnwindowedFlushes, UnwindowedSurvivesCrash}
+use Rattle.sb_laws.proofs.Blocks.{HeldSince, HoldsAt, IsSteady, blocks_hold, held_now, sound_is_steady, steady_before, unwindowed_is_steady}
 use Rattle.sb_laws.proofs.Held.{Each, Each-map, From, From-nil, Had}
-use Rattle.sb_laws.proofs.Phases.{known_cases}
 use Rattle.sb_laws.proofs.Shown.{contained}
-use Rattle.sb_laws.proofs.Blocks.{HeldSince, HoldsAt, held_now, IsSteady, sound_is_steady, unwindowed_is_steady, blocks_hold, steady_before}
+use Rattle.sb_laws.proofs.Steps.{known_cases}
 
 -- what is cached of a block is its content
 pub cached_is : (block_size : ℕ) (settings : Settings) (delay : Delays) (found : Found) (start : Start) (past : List Entry) (block : ℕ) → HoldsAt block_size settings delay found start past block

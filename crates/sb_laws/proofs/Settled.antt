@@ -14,10 +14,11 @@ use Rattle.sb_history.specs.Durability.{possible_of}
 use Rattle.sb_history.specs.Cache.{Found}
 use Rattle.sb_history.specs.AccessRules.{last_reading}
 use Rattle.sb_history.specs.Laws.{SettledIsPossible}
+use Rattle.sb_laws.proofs.Blocks.{IsSteady, blocks_hold, sound_is_steady, steady_before}
 use Rattle.sb_laws.proofs.Held.{Each, Each-map}
-use Rattle.sb_laws.proofs.Phases.{EndingBy, EndedBy, EndedBy-later, AllSuperseded, Ordered, Phase, idle, getting, held, writing, OpenPut}
+use Rattle.sb_laws.proofs.Order.{AllSuperseded, EndedBy, EndedBy-later, EndingBy, Ordered}
+use Rattle.sb_laws.proofs.Phases.{OpenPut, Phase, getting, held, idle, writing}
 use Rattle.sb_laws.proofs.Shown.{contained}
-use Rattle.sb_laws.proofs.Blocks.{IsSteady, sound_is_steady, blocks_hold, steady_before}
 
 -- each put overtakes those before it, and all that ended did so by now
 abbrev EndedNow : ℕ → ℕ → Option Ending → Type 0

@@ -16,7 +16,8 @@ use Rattle.sb_history.specs.Window.{is_in_time, expected, expected_ending, answe
 use Rattle.sb_history.specs.AccessRules.{Matches}
 use Rattle.sb_history.specs.Laws.{CheckedSettingsCover}
 use Rattle.sb_laws.proofs.Held.{Each}
-use Rattle.sb_laws.proofs.Phases.{EndingBy, EndedBy, AllSuperseded, Ordered, EndedOk, NewestOk, Verifies}
+use Rattle.sb_laws.proofs.Order.{AllSuperseded, EndedBy, EndingBy, Ordered}
+use Rattle.sb_laws.proofs.Phases.{EndedOk, NewestOk, Verifies}
 
 pub contained : (Q : List ℕ → Type 0) (x : List ℕ) (xs : List (List ℕ)) (k : ℕ) → Each Q xs → k < length xs → slice_index_or xs k x ≡ x → Q x
 contained Q x [] k all below is = absurd (omega (arith, below))

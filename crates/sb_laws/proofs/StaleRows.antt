@@ -1,11 +1,9 @@
 -- Within which delays the worked histories are stale.
-use Rattle.std.proofs.Common.{ℕ, zero, suc, ◌≡◌, ◌+◌, ◌*◌, ◌<◌, ◌≤◌, Bool, true, false, ◌&&◌, nat_lt, nat_le, List, [], ◌∷◌, Contains, Option, Some, None, refl, arith}
+use Rattle.std.proofs.Common.{ℕ, zero, suc, ◌≡◌, ◌+◌, ◌*◌, ◌<◌, ◌≤◌, Bool, true, false, ◌&&◌, nat_lt, nat_le, Contains, refl, arith}
 use Rattle.std.proofs.lemmas.Bool.{lt-leb}
-use Rattle.sb_history.specs.Puts.{Put, puts_of}
-use Rattle.sb_history.specs.Visibility.{visible_contents, is_settled, IsStaleWithin}
-use Rattle.sb_history.specs.Values.{IsLegal}
-use Rattle.sb_laws.specs.Histories.{both, a, b, c, a_at_0, b_flushed, start_shown, shown_twice, shown_for_good, failed_put_shown}
-use Rattle.sb_laws.proofs.Shown.{contained}
+use Rattle.sb_history.specs.Puts.{puts_of}
+use Rattle.sb_history.specs.Visibility.{visible_contents, IsStaleWithin}
+use Rattle.sb_laws.specs.Histories.{both, a, a_at_0, b_flushed, start_shown, shown_for_good}
 
 -- an old version shown for good
 puts_stay : (n : ℕ) → puts_of (start_shown n) 0 ≡ puts_of b_flushed 0

@@ -16,9 +16,10 @@ use Rattle.sb_history.specs.AccessRules.{is_opening, is_opening_kind, EndsFetch,
 use Rattle.sb_history.specs.CachePolicy.{FetchesUnknown, DropsVictim, PutsDirty, ObeysPolicy, FollowsCachePolicy}
 use Rattle.sb_history.specs.States.{missing, clean, clean2, dirty, reading, reading2, writing, writing2, state_of, state_at, written, get_begun, get_ended, put_begun, put_ended, next_state}
 use Rattle.sb_history.specs.Laws.{StatesGoByTable}
+use Rattle.sb_laws.proofs.Ends.{both_true, ends_open, not_open_end, opening}
 use Rattle.sb_laws.proofs.Held.{Each, Each-map}
-use Rattle.sb_laws.proofs.Phases.{all_three, not_both, unknown_zeros, unknown_written, known_written}
-use Rattle.sb_laws.proofs.Blocks.{opening, not_open_end, ends_open, dirty_owes, victim_cases, both_true, not_true, unverified_unknown}
+use Rattle.sb_laws.proofs.Steps.{all_three, known_written, not_both, unknown_written, unknown_zeros}
+use Rattle.sb_laws.proofs.Victims.{dirty_owes, not_true, unverified_unknown, victim_cases}
 
 -- how the parts of a block's state fit together
 pub data Shape (n : ℕ) (unverified : Bool) (known : Option (List ℕ)) (absent : Bool) (get : Option Fetch) (puts : List Put) (owed : List ℕ) : Type 0 where

@@ -1,13 +1,10 @@
 -- The calls and the ticks of the worked histories.
-use Rattle.std.proofs.Common.{ℕ, ◌≡◌, ◌+◌, List, [], ◌∷◌, drop, ◌≢◌, ◌<◌, ◌≤◌, Option, Some, None, refl, inl, inr, arith}
+use Rattle.std.proofs.Common.{[], ◌∷◌, drop, ◌≢◌, Some, None, refl, inl, inr, arith}
 use Rattle.md5.specs.Md5.{md5}
-use Rattle.sb_world.specs.declared.link.LinkFault.TheVariants as fault
-use Rattle.sb_world.specs.declared.link.GetReply.TheVariants as reply
 use Rattle.sb_world.specs.declared.clock.Tick.TheVariants as tick
-use Rattle.sb_history.specs.Requests.{RequestLog}
 use Rattle.sb_history.specs.ClockTrace.{ClockTrace}
-use Rattle.sb_laws.specs.Histories.{a, b, c, tiny, spaced, shown_twice, spacing_awaited, failed_put_shown, zeros_flushed}
-use Rattle.sb_laws.specs.Traces.{name_of, sizes, alone, shown_twice_calls, failed_put_calls, zeros_calls, ticks_before_wait, failed_put_ticks, stalled_ticks}
+use Rattle.sb_laws.specs.Histories.{b, c, tiny, spaced, spacing_awaited, failed_put_shown}
+use Rattle.sb_laws.specs.Traces.{alone, ticks_before_wait, failed_put_ticks, stalled_ticks}
 
 six_ticks : ClockTrace tiny spaced alone [] (drop 1 spacing_awaited) (Some 1000) (drop 1 ticks_before_wait)
 six_ticks = (1000, None, [], _, refl, refl, refl, refl, (1000, None, [], _, refl, refl, refl, refl, (1000, None, [], _, refl, refl, refl, refl, (1000, None, [], _, refl, refl, refl, refl, (1000, None, [], _, refl, refl, refl, refl, (1000, None, [], _, refl, refl, refl, refl, refl))))))

@@ -1,13 +1,7 @@
 -- Reads of old values and flushes that end too early.
-use Rattle.std.proofs.Common.{ℕ, zero, suc, ◌≡◌, ◌⊎◌, Bool, true, false, List, [], ◌∷◌, Contains, Option, Some, None, nat_eq, if◌then◌else◌, refl, sym, ◌∙◌, subst, arith}
-use Rattle.std.proofs.lemmas.Bool.{eqb-true}
-use Rattle.sb_base.specs.declared.entry.EntryKind.TheVariants.{PutEnd}
-use Rattle.sb_history.specs.Contents.{overlay}
-use Rattle.sb_history.specs.Values.{IsLegal, values_since}
-use Rattle.sb_history.specs.Durability.{possible_contents, OnlyHeldSince, FlushesAreDurable}
-use Rattle.sb_history.specs.Cache.{cached_content, is_known_zero}
-use Rattle.sb_history.specs.Writes.{unacked_writes}
-use Rattle.sb_laws.specs.Histories.{a, b, a_at_0, old_value_read, flushed_too_early, flushed_after_failure, flushed_in_order, at, put_begun, nothing_found, zeros_written}
+use Rattle.std.proofs.Common.{ℕ, ◌≡◌, List, [], ◌∷◌, Contains, refl, arith}
+use Rattle.sb_history.specs.Durability.{FlushesAreDurable}
+use Rattle.sb_laws.specs.Histories.{a, b, a_at_0, flushed_too_early, flushed_after_failure}
 use Rattle.sb_laws.proofs.Held.{Each}
 use Rattle.sb_laws.proofs.Shown.{contained}
 

@@ -1,5 +1,5 @@
 -- The calls and the ticks of some worked histories, the newest first.
-use Rattle.std.specs.Prelude.{ℕ, List, [], ◌∷◌, Option, Some, None, true}
+use Rattle.std.specs.Prelude.{ℕ, List, [], ◌∷◌, Some, None, true}
 use Rattle.sb_world.specs.declared.link.Call.{Call}
 use Rattle.sb_world.specs.declared.link.Call.TheVariants as call
 use Rattle.sb_world.specs.declared.link.GetReply.TheVariants as reply
@@ -7,7 +7,6 @@ use Rattle.sb_world.specs.declared.link.LinkFault.TheVariants as fault
 use Rattle.sb_world.specs.declared.link.Meta.{Meta}
 use Rattle.sb_world.specs.declared.clock.Tick.{Tick}
 use Rattle.sb_world.specs.declared.clock.Tick.TheVariants.{Taken, Paused}
-use Rattle.sb_history.specs.Contents.{zeros}
 use Rattle.sb_history.specs.ClockTrace.{Caller}
 use Rattle.sb_laws.specs.Histories.{a, b, c}
 
