@@ -1,5 +1,5 @@
--- What a clock gave for the entries of one pass: a reading for each, and a pause after those that are to be tried again.
--- Entries and ticks are lists with the newest first.
+-- What a clock gave for the entries of one pass: a reading for each, and a pause after those that are to be tried
+-- again. Entries and ticks are lists with the newest first.
 use Rattle.std.specs.Prelude.{ℕ, ◌≡◌, ◌≢◌, ◌+◌, ◌-◌, ◌<◌, ◌≤◌, ◌⊎◌, Bool, true, false, nat_eq, List, [], ◌∷◌, ◌++◌, Option, Some, None, max}
 use Rattle.sb_base.specs.declared.geometry.Geometry.{Geometry}
 use Rattle.sb_base.specs.declared.settings.Settings.{Settings}
@@ -46,7 +46,9 @@ PausesWhere fact millis (Some pause) = fact × (pause ≡ millis)
 abbrev pub PausesAfter : Geometry → Settings → List Entry → ℕ → EntryKind → Option ℕ → Type 0
 PausesAfter geometry settings past taken (Waited reason) pause = pause ≡ wait_pause reason taken
 PausesAfter geometry settings past taken (GetEnd block answer verify took) pause =
-    PausesWhere (IsAskedAnew settings.stale_limit (fetch_of past block) (answer_digest geometry.block_size verify answer)) 100 pause
+    PausesWhere
+    (IsAskedAnew settings.stale_limit (fetch_of past block) (answer_digest geometry.block_size verify answer)) 100
+    pause
 PausesAfter geometry settings past taken kind pause = pause ≡ None
 
 -- on one thread the next reading is one that the pause has reached; it is known
@@ -58,40 +60,51 @@ Reaches true until (Some reading) = until ≤ reading
 -- on one thread a reading that the pause has not reached was taken after it, and stands for no entry
 abbrev pub FallsShort : Bool → ℕ → ℕ → List Tick → Type 0
 FallsShort false until millis ticks = ⊥
-FallsShort true until millis ticks = (short : ℕ) × (short < until) × (ticks ≡ tick.Taken short ∷ tick.Paused millis ∷ [])
+FallsShort true until millis ticks =
+    (short : ℕ) × (short < until) × (ticks ≡ tick.Taken short ∷ tick.Paused millis ∷ [])
 
 -- the ticks of a pause, if any, before the next reading
 abbrev pub PauseTicks : Bool → ℕ → Option ℕ → Option ℕ → List Tick → Type 0
 PauseTicks alone taken next None ticks = ticks ≡ []
 PauseTicks alone taken next (Some millis) ticks =
-    ((ticks ≡ tick.Paused millis ∷ []) × Reaches alone (taken + millis) next) ⊎ FallsShort alone (taken + millis) millis ticks
+    ((ticks ≡ tick.Paused millis ∷ []) × Reaches alone (taken + millis) next)
+    ⊎ FallsShort alone (taken + millis) millis ticks
 
 -- the ticks of an entry with those of the entries before it: the reading taken for it, and those of its pause. The
 -- entry's reading is the greater of that one and that of the entry before it.
-abbrev pub IsTicked : Geometry → Settings → Bool → Option ℕ → List Entry → Entry → List Tick → (ℕ → List Tick → Type 0) → Type 0
+abbrev pub IsTicked :
+    Geometry → Settings → Bool → Option ℕ → List Entry → Entry → List Tick → (ℕ → List Tick → Type 0) → Type 0
 IsTicked geometry settings alone next past entry ticks Rest =
-    (taken : ℕ) × (pause : Option ℕ) × (after earlier : List Tick) × (ticks ≡ after ++ tick.Taken taken ∷ earlier) × (entry.reading ≡ max taken (last_reading past))
-    × PausesAfter geometry settings past taken entry.kind pause × PauseTicks alone taken next pause after × Rest taken earlier
+    (taken : ℕ) × (pause : Option ℕ) × (after earlier : List Tick) × (ticks ≡ after ++ tick.Taken taken ∷ earlier)
+    × (entry.reading ≡ max taken (last_reading past))
+    × PausesAfter geometry settings past taken entry.kind pause × PauseTicks alone taken next pause after
+    × Rest taken earlier
 
 -- an entry of another pass has no ticks
-abbrev pub IsTickedIf : Bool → Geometry → Settings → Bool → Option ℕ → List Entry → Entry → List Tick → (Option ℕ → List Tick → Type 0) → Type 0
-IsTickedIf true geometry settings alone next past entry ticks Rest = IsTicked geometry settings alone next past entry ticks (λ taken. Rest (Some taken))
+abbrev pub IsTickedIf :
+    Bool → Geometry → Settings → Bool → Option ℕ → List Entry → Entry → List Tick → (Option ℕ → List Tick → Type 0)
+    → Type 0
+IsTickedIf true geometry settings alone next past entry ticks Rest =
+    IsTicked geometry settings alone next past entry ticks (λ taken. Rest (Some taken))
 IsTickedIf false geometry settings alone next past entry ticks Rest = Rest next ticks
 
 -- what a caller's clock gave for entries behind a history, where it took this reading next
 abbrev pub ClockTrace : Geometry → Settings → Caller → List Entry → List Entry → Option ℕ → List Tick → Type 0
 ClockTrace geometry settings caller before [] next ticks = ticks ≡ []
 ClockTrace geometry settings caller before (entry ∷ entries) next ticks =
-    IsTickedIf (nat_eq entry.pass caller.pass) geometry settings caller.alone next (entries ++ before) entry ticks (ClockTrace geometry settings caller before entries)
+    IsTickedIf (nat_eq entry.pass caller.pass) geometry settings caller.alone next (entries ++ before) entry ticks
+    (ClockTrace geometry settings caller before entries)
 
 -- no entry is followed by a pause
 abbrev pub NonePauses : Geometry → Settings → List Entry → List Entry → Type 0
 NonePauses geometry settings before [] = Unit {0}
 NonePauses geometry settings before (entry ∷ entries) =
-    ((taken : ℕ) → PausesAfter geometry settings (entries ++ before) taken entry.kind None) × NonePauses geometry settings before entries
+    ((taken : ℕ) → PausesAfter geometry settings (entries ++ before) taken entry.kind None)
+    × NonePauses geometry settings before entries
 
 -- one reading was taken for each entry, and nothing else
 abbrev pub OneReadingEach : List Entry → List Entry → List Tick → Type 0
 OneReadingEach before [] ticks = ticks ≡ []
 OneReadingEach before (entry ∷ entries) ticks =
-    (taken : ℕ) × (earlier : List Tick) × (ticks ≡ tick.Taken taken ∷ earlier) × (entry.reading ≡ max taken (last_reading (entries ++ before))) × OneReadingEach before entries earlier
+    (taken : ℕ) × (earlier : List Tick) × (ticks ≡ tick.Taken taken ∷ earlier)
+    × (entry.reading ≡ max taken (last_reading (entries ++ before))) × OneReadingEach before entries earlier

@@ -30,7 +30,8 @@ possible_contents start past block = possible_of (start block) (puts_of past blo
 abbrev pub OnlyHeldSince : Start → Option ℕ → List Entry → Type 0
 OnlyHeldSince start None past = ⊥
 OnlyHeldSince start (Some place) past =
-    (block : ℕ) (content : List ℕ) → Contains (possible_contents start past block) content → Contains (values_since start place past block) content
+    (block : ℕ) (content : List ℕ) → Contains (possible_contents start past block) content
+    → Contains (values_since start place past block) content
 
 -- at the end of a flush the store may come to hold only what each block held since the flush began
 abbrev pub FlushIsDurable : Start → List Entry → EntryKind → Type 0
@@ -45,4 +46,5 @@ FlushesAreDurable start (entry ∷ past) = FlushIsDurable start past entry.kind 
 -- at each moment the store may come to hold only what each block held since the last flush that is done began
 abbrev pub IsCrashDurable : Start → List Entry → Type 0
 IsCrashDurable start [] = OnlyHeldSince start (Some 0) []
-IsCrashDurable start (entry ∷ past) = OnlyHeldSince start (Some (flushed_place (entry ∷ past))) (entry ∷ past) × IsCrashDurable start past
+IsCrashDurable start (entry ∷ past) =
+    OnlyHeldSince start (Some (flushed_place (entry ∷ past))) (entry ∷ past) × IsCrashDurable start past

@@ -13,7 +13,8 @@ use Rattle.sb_history.specs.Writes.{is_nil, unacked_writes}
 abbrev pub unverified_after : ℕ → EntryKind → Bool → Bool
 unverified_after block (KnownZero of) before = if nat_eq of block then false else before
 unverified_after block (Write part bytes) before = if nat_eq part.block block then false else before
-unverified_after block (GetEnd of answer verify taken) before = if nat_eq of block then (if taken then false else before) else before
+unverified_after block (GetEnd of answer verify taken) before =
+    if nat_eq of block then (if taken then false else before) else before
 unverified_after block (Dropped of) before = if nat_eq of block then false else before
 unverified_after block kind before = before
 
@@ -24,7 +25,9 @@ is_unverified found (entry ∷ past) block = unverified_after block entry.kind (
 
 -- the block takes an entry of the cache: it is cached or unverified, or a GET of it is open
 abbrev pub is_occupied : ℕ → Found → List Entry → ℕ → Bool
-is_occupied block_size found past block = is_some (cached_content block_size found past block) || (is_unverified found past block || is_some (fetch_of past block))
+is_occupied block_size found past block =
+    is_some (cached_content block_size found past block) ||
+    (is_unverified found past block || is_some (fetch_of past block))
 
 -- a use of a block
 pub record Use : Type 0 where
@@ -33,10 +36,13 @@ pub record Use : Type 0 where
 
 -- the last use of a block after an entry at a place and a reading
 abbrev pub use_after : ℕ → ℕ → ℕ → EntryKind → Use → Use
-use_after block place reading (Read part bytes) before = if nat_eq part.block block then record { place = min place last_number; reading = reading } else before
-use_after block place reading (Write part bytes) before = if nat_eq part.block block then record { place = min place last_number; reading = reading } else before
+use_after block place reading (Read part bytes) before =
+    if nat_eq part.block block then record { place = min place last_number; reading = reading } else before
+use_after block place reading (Write part bytes) before =
+    if nat_eq part.block block then record { place = min place last_number; reading = reading } else before
 use_after block place reading (GetEnd of answer verify taken) before =
-    if nat_eq of block then (if taken then record { place = min place last_number; reading = reading } else before) else before
+    if nat_eq of block
+    then (if taken then record { place = min place last_number; reading = reading } else before) else before
 use_after block place reading kind before = before
 
 -- the last read, write or taken answer of a block
@@ -75,8 +81,12 @@ waits_unverified found past block = is_unverified found past block && is_none (f
 
 -- the block is cached, owes the store nothing, and no put of it is open
 abbrev pub is_clean : ℕ → Found → List Entry → ℕ → Bool
-is_clean block_size found past block = is_some (cached_content block_size found past block) && (is_nil (unacked_writes block_size found past block) && not (put_open past block))
+is_clean block_size found past block =
+    is_some (cached_content block_size found past block) &&
+    (is_nil (unacked_writes block_size found past block) && not (put_open past block))
 
 -- the block that is dropped next: the lowest unverified one, else the clean one whose last use is the oldest
 abbrev pub victim_of : ℕ → ℕ → Found → List Entry → Option ℕ
-victim_of block_size blocks found past = first_of (lowest (waits_unverified found past) blocks) (lightest (is_clean block_size found past) (λ block. (last_use past block).place) blocks)
+victim_of block_size blocks found past =
+    first_of (lowest (waits_unverified found past) blocks)
+    (lightest (is_clean block_size found past) (λ block. (last_use past block).place) blocks)

@@ -16,11 +16,13 @@ pub record Fetch : Type 0 where
 -- the GET of a block that is open after an entry of a pass, at a place and a reading
 abbrev pub fetch_after : ℕ → ℕ → ℕ → ℕ → EntryKind → Option Fetch → Option Fetch
 fetch_after block pass place reading (GetBegin of expect verify) before =
-    if nat_eq of block then Some (record { pass = pass; place = place; reading = reading; expect = expect; verify = verify }) else before
+    if nat_eq of block
+    then Some (record { pass = pass; place = place; reading = reading; expect = expect; verify = verify }) else before
 fetch_after block pass place reading (GetEnd of answer verify taken) before = if nat_eq of block then None else before
 fetch_after block pass place reading kind before = before
 
 -- the GET of a block that is open
 abbrev pub fetch_of : List Entry → ℕ → Option Fetch
 fetch_of [] block = None
-fetch_of (entry ∷ past) block = fetch_after block entry.pass (length past) entry.reading entry.kind (fetch_of past block)
+fetch_of (entry ∷ past) block =
+    fetch_after block entry.pass (length past) entry.reading entry.kind (fetch_of past block)

@@ -27,7 +27,8 @@ ended ending (put ∷ puts) = record put { ending = Some ending } ∷ puts
 -- the puts of a block after an entry of a pass, at a place and a reading
 abbrev pub puts_after : ℕ → ℕ → ℕ → ℕ → EntryKind → List Put → List Put
 puts_after block pass place reading (PutBegin of content) puts =
-    if nat_eq of block then record { content = content; pass = pass; place = place; reading = reading; ending = None } ∷ puts else puts
+    if nat_eq of block
+    then record { content = content; pass = pass; place = place; reading = reading; ending = None } ∷ puts else puts
 puts_after block pass place reading (PutEnd of ok) puts =
     if nat_eq of block then ended (record { place = place; reading = reading; ok = ok }) puts else puts
 puts_after block pass place reading kind puts = puts

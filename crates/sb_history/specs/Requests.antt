@@ -42,18 +42,21 @@ Replies shown.Failed answered = (fault : LinkFault) × (answered ≡ reply.Fault
 -- the newest of these calls is a GET with this answer, and the others are as the rest says
 abbrev pub IsGetCall : List ℕ → Option (List ℕ) → Shown → List Call → (List Call → Type 0) → Type 0
 IsGetCall name verify answer calls Rest =
-    (answered : GetReply) × (earlier : List Call) × (calls ≡ call.Get name verify answered ∷ earlier) × Replies answer answered × Rest earlier
+    (answered : GetReply) × (earlier : List Call) × (calls ≡ call.Get name verify answered ∷ earlier)
+    × Replies answer answered × Rest earlier
 
 -- the newest of these calls is a put of this content, with a fault exactly where it isn't ok
 abbrev pub IsPutCall : List ℕ → Option Meta → Option (List ℕ) → Bool → List Call → (List Call → Type 0) → Type 0
 IsPutCall name meta None ok calls Rest = ⊥
 IsPutCall name meta (Some content) ok calls Rest =
-    (fault : Option LinkFault) × (earlier : List Call) × (calls ≡ put_call name meta content fault ∷ earlier) × (is_none fault ≡ ok) × Rest earlier
+    (fault : Option LinkFault) × (earlier : List Call) × (calls ≡ put_call name meta content fault ∷ earlier)
+    × (is_none fault ≡ ok) × Rest earlier
 
 -- the calls of an entry, and those of the entries before it as the rest says
 abbrev pub IsCallOf : (ℕ → List ℕ) → Option Meta → List Entry → EntryKind → List Call → (List Call → Type 0) → Type 0
 IsCallOf name meta past (GetEnd block answer verify taken) calls Rest = IsGetCall (name block) verify answer calls Rest
-IsCallOf name meta past (PutEnd block ok) calls Rest = IsPutCall (name block) (meta_of meta block) (put_content past block) ok calls Rest
+IsCallOf name meta past (PutEnd block ok) calls Rest =
+    IsPutCall (name block) (meta_of meta block) (put_content past block) ok calls Rest
 IsCallOf name meta past kind calls Rest = Rest calls
 
 -- the calls that entries stand for, by the names of blocks and the sizes that the first one's object carries

@@ -40,15 +40,18 @@ contents_in start found kind = []
 -- zeros, the contents that a history puts or shows, and those that its blocks began with
 abbrev pub contents_of : ℕ → Start → Found → List Entry → List (List ℕ)
 contents_of block_size start found [] = zeros block_size ∷ []
-contents_of block_size start found (entry ∷ past) = contents_in start found entry.kind ++ contents_of block_size start found past
+contents_of block_size start found (entry ∷ past) =
+    contents_in start found entry.kind ++ contents_of block_size start found past
 
 -- no MD5 collision: among these contents, equal digests come of equal contents
 abbrev pub IsCollisionFree : ℕ → Start → Found → List Entry → Type 0
 IsCollisionFree block_size start found past =
-    (a b : List ℕ) → Contains (contents_of block_size start found past) a → Contains (contents_of block_size start found past) b → md5 a ≡ md5 b → a ≡ b
+    (a b : List ℕ) → Contains (contents_of block_size start found past) a
+    → Contains (contents_of block_size start found past) b → md5 a ≡ md5 b → a ≡ b
 
 -- a history by the rules and the policy, over a store that is stale only within the delays, which the settings cover
-pub record IsSoundHistory (geometry : Geometry) (settings : Settings) (found : Found) (start : Start) (delays : Delays) (past : List Entry) : Type 0 where
+pub record IsSoundHistory (geometry : Geometry) (settings : Settings) (found : Found) (start : Start) (delays : Delays)
+    (past : List Entry) : Type 0 where
   pub sized : FillBlocks geometry.block_size start
   pub covers : CoversDelays settings delays
   pub rules : FollowsAccessRules geometry settings found past
@@ -57,7 +60,8 @@ pub record IsSoundHistory (geometry : Geometry) (settings : Settings) (found : F
   pub collision_free : IsCollisionFree geometry.block_size start found past
 
 -- a disk without a window, which found nothing, over a store that shows the latest versions
-pub record IsUnwindowed (geometry : Geometry) (settings : Settings) (found : Found) (start : Start) (past : List Entry) : Type 0 where
+pub record IsUnwindowed (geometry : Geometry) (settings : Settings) (found : Found) (start : Start) (past : List Entry)
+    : Type 0 where
   pub sized : FillBlocks geometry.block_size start
   pub off : settings.md5_size ≡ 0
   pub nothing : (block : ℕ) → found.body block ≡ None

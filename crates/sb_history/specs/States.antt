@@ -34,12 +34,14 @@ state_put puts writes = if is_nil (filter (λ write. nat_le (newest_place puts) 
 -- the state by the parts of a history
 abbrev pub state_of : Bool → Option (List ℕ) → Option Fetch → List Put → List ℕ → State
 state_of unverified cached (Some fetch) puts writes = if unverified then reading2 else reading
-state_of unverified cached None puts writes = if newest_is_open puts then state_put puts writes else state_held unverified cached writes
+state_of unverified cached None puts writes =
+    if newest_is_open puts then state_put puts writes else state_held unverified cached writes
 
 -- the state of a block after a history
 abbrev pub state_at : ℕ → Found → List Entry → ℕ → State
 state_at block_size found past block =
-    state_of (is_unverified found past block) (cached_content block_size found past block) (fetch_of past block) (puts_of past block) (unacked_writes block_size found past block)
+    state_of (is_unverified found past block) (cached_content block_size found past block) (fetch_of past block)
+    (puts_of past block) (unacked_writes block_size found past block)
 
 -- the table, a write: one that leaves zeros where the store is known to hold zeros, with no put open, owes nothing
 abbrev pub written : Bool → State → State
@@ -82,10 +84,15 @@ put_ended ok state = state
 abbrev pub next_state : ℕ → ℕ → Bool → Option (List ℕ) → List Put → EntryKind → State → State
 next_state block_size block known_zero cached puts (KnownZero of) state = if nat_eq of block then missing else state
 next_state block_size block known_zero cached puts (Write part bytes) state =
-    if nat_eq part.block block then written ((known_zero && not (newest_is_open puts)) && is_zeros (outcome block_size cached part bytes)) state else state
-next_state block_size block known_zero cached puts (GetBegin of expect verify) state = if nat_eq of block then get_begun state else state
-next_state block_size block known_zero cached puts (GetEnd of answer verify taken) state = if nat_eq of block then get_ended taken state else state
-next_state block_size block known_zero cached puts (PutBegin of content) state = if nat_eq of block then put_begun state else state
-next_state block_size block known_zero cached puts (PutEnd of ok) state = if nat_eq of block then put_ended ok state else state
+    if nat_eq part.block block then written
+    ((known_zero && not (newest_is_open puts)) && is_zeros (outcome block_size cached part bytes)) state else state
+next_state block_size block known_zero cached puts (GetBegin of expect verify) state =
+    if nat_eq of block then get_begun state else state
+next_state block_size block known_zero cached puts (GetEnd of answer verify taken) state =
+    if nat_eq of block then get_ended taken state else state
+next_state block_size block known_zero cached puts (PutBegin of content) state =
+    if nat_eq of block then put_begun state else state
+next_state block_size block known_zero cached puts (PutEnd of ok) state =
+    if nat_eq of block then put_ended ok state else state
 next_state block_size block known_zero cached puts (Dropped of) state = if nat_eq of block then missing else state
 next_state block_size block known_zero cached puts kind state = state

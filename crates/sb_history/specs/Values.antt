@@ -8,7 +8,8 @@ use Rattle.sb_history.specs.Contents.{Start, overlay, part_bytes}
 
 -- what a block holds after an entry, which only a write of that block changes
 abbrev pub value_after : ℕ → EntryKind → List ℕ → List ℕ
-value_after block (Write part bytes) content = if nat_eq part.block block then overlay content part.offset bytes else content
+value_after block (Write part bytes) content =
+    if nat_eq part.block block then overlay content part.offset bytes else content
 value_after block kind content = content
 
 -- what a block holds after a history
@@ -30,7 +31,8 @@ IsLegal start (entry ∷ past) = ReadsLatest start past entry.kind × IsLegal st
 abbrev pub values_since : Start → ℕ → List Entry → ℕ → List (List ℕ)
 values_since start place [] block = start block ∷ []
 values_since start place (entry ∷ past) block =
-    value_of start (entry ∷ past) block ∷ (if nat_le place (length past) then values_since start place past block else [])
+    value_of start (entry ∷ past) block ∷
+    (if nat_le place (length past) then values_since start place past block else [])
 
 -- an entry is a write of the block
 abbrev pub writes_block : ℕ → EntryKind → Bool

@@ -36,7 +36,8 @@ put_counts settings reading (put ∷ puts) = ending_counts settings reading put.
 abbrev pub expected_ending : Settings → ℕ → List ℕ → Option Ending → Option Expect
 expected_ending settings reading content None = None
 expected_ending settings reading content (Some ending) =
-    if (nat_lt 0 settings.md5_size && ending.ok) && is_in_time settings reading ending.reading then Some (record { digest = md5 content; since = ending.reading }) else None
+    if (nat_lt 0 settings.md5_size && ending.ok) && is_in_time settings reading ending.reading
+    then Some (record { digest = md5 content; since = ending.reading }) else None
 
 -- the digest that a GET has to show: that of the newest put, where the window is on, that put ended ok and is in time
 abbrev pub expected : Settings → ℕ → List Put → Option Expect
@@ -63,4 +64,5 @@ SpacedFrom spacing reading (put ∷ puts) = SpacedFromEnding spacing reading put
 -- the window, where it is on, has room for a put of the block
 abbrev pub HasRoom : ℕ → Settings → List Entry → ℕ → ℕ → Type 0
 HasRoom blocks settings past reading block =
-    settings.md5_size ≢ 0 → count (λ other. nat_eq other block || put_counts settings reading (puts_of past other)) blocks ≤ settings.md5_size
+    settings.md5_size ≢ 0
+    → count (λ other. nat_eq other block || put_counts settings reading (puts_of past other)) blocks ≤ settings.md5_size

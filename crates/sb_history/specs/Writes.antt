@@ -18,20 +18,27 @@ is_nil (x ∷ xs) = false
 -- hold zeros owes nothing. An ok end of a put acknowledges what was written before the put began.
 abbrev pub unacked_after : ℕ → ℕ → ℕ → Bool → Option (List ℕ) → List Put → EntryKind → List ℕ → List ℕ
 unacked_after block_size block place known_zero cached puts (Write part bytes) before =
-    if nat_eq part.block block then (if (known_zero && not (newest_is_open puts)) && is_zeros (outcome block_size cached part bytes) then [] else place ∷ before) else before
+    if nat_eq part.block block
+    then (if (known_zero && not (newest_is_open puts)) && is_zeros (outcome block_size cached part bytes)
+    then [] else place ∷ before)
+    else before
 unacked_after block_size block place known_zero cached puts (PutEnd of ok) before =
-    if nat_eq of block then (if ok then filter (λ write. nat_le (newest_place puts) write) before else before) else before
+    if nat_eq of block
+    then (if ok then filter (λ write. nat_le (newest_place puts) write) before else before) else before
 unacked_after block_size block place known_zero cached puts kind before = before
 
 -- the places of the writes of a block that no put has acknowledged, the newest first
 abbrev pub unacked_writes : ℕ → Found → List Entry → ℕ → List ℕ
 unacked_writes block_size found [] block = []
 unacked_writes block_size found (entry ∷ past) block =
-    unacked_after block_size block (length past) (is_known_zero block_size found past block) (cached_content block_size found past block) (puts_of past block) entry.kind (unacked_writes block_size found past block)
+    unacked_after block_size block (length past) (is_known_zero block_size found past block)
+    (cached_content block_size found past block) (puts_of past block) entry.kind
+    (unacked_writes block_size found past block)
 
 -- the block has unacknowledged writes, and no put of it is open
 abbrev pub is_dirty : ℕ → Found → List Entry → ℕ → Bool
-is_dirty block_size found past block = not (is_nil (unacked_writes block_size found past block)) && not (put_open past block)
+is_dirty block_size found past block =
+    not (is_nil (unacked_writes block_size found past block)) && not (put_open past block)
 
 -- the reading of the entry at a place
 abbrev pub reading_at : List Entry → ℕ → ℕ
@@ -56,11 +63,13 @@ last_failed (entry ∷ past) block = failed_after block entry.reading entry.kind
 
 -- the reading since which a dirty block is dirty: that of its oldest unacknowledged write, or of a later failed put
 abbrev pub dirty_since : ℕ → Found → List Entry → ℕ → ℕ
-dirty_since block_size found past block = max (reading_at past (unwrap_or (oldest (unacked_writes block_size found past block)) 0)) (last_failed past block)
+dirty_since block_size found past block =
+    max (reading_at past (unwrap_or (oldest (unacked_writes block_size found past block)) 0)) (last_failed past block)
 
 -- no unacknowledged write stands before the flush of this mark, which began at this place; the last mark stands for all
 abbrev pub is_unstamped_by : ℕ → ℕ → List ℕ → Bool
-is_unstamped_by mark place writes = if nat_eq mark last_number then is_nil writes else list_all (λ write. nat_le place write) writes
+is_unstamped_by mark place writes =
+    if nat_eq mark last_number then is_nil writes else list_all (λ write. nat_le place write) writes
 
 -- a flush of this mark has begun, and an unacknowledged write stands before it
 abbrev pub is_stamped_by : ℕ → Option ℕ → List ℕ → Bool
@@ -69,4 +78,5 @@ is_stamped_by mark (Some place) writes = not (is_unstamped_by mark place writes)
 
 -- the flush of this mark has to wait for the block
 abbrev pub is_stamped : ℕ → Found → List Entry → ℕ → ℕ → Bool
-is_stamped block_size found past mark block = is_stamped_by mark (flush_place past mark) (unacked_writes block_size found past block)
+is_stamped block_size found past mark block =
+    is_stamped_by mark (flush_place past mark) (unacked_writes block_size found past block)

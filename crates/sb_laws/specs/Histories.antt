@@ -28,7 +28,8 @@ abbrev pub tiny : Geometry
 tiny = record { block_size = 1; blocks = 16 }
 
 abbrev pub spaced : Settings
-spaced = record { min_write_delay = 500; md5_time = 10000; md5_size = 10000; cache_size = 1; write_delay = 250; clean_time = 0; max_dirty = 0; stale_limit = 5000; read_ahead = 0; read_ahead_trigger = 0; threads = 1; clients = 1 }
+spaced =
+    record { min_write_delay = 500; md5_time = 10000; md5_size = 10000; cache_size = 1; write_delay = 250; clean_time = 0; max_dirty = 0; stale_limit = 5000; read_ahead = 0; read_ahead_trigger = 0; threads = 1; clients = 1 }
 
 -- three contents of a block of one byte
 abbrev pub a : List ℕ
@@ -70,7 +71,9 @@ b_flushed =
 -- then n GETs of block 0, the first at 1,000 and the others 100 apart, which all show the start
 abbrev pub start_shown : ℕ → List Entry
 start_shown zero = b_flushed
-start_shown (suc n) = at (1000 + n * 100) (GetEnd 0 (shown.Bytes a) None false) ∷ at (1000 + n * 100) (GetBegin 0 (expects b 1000) None) ∷ start_shown n
+start_shown (suc n) =
+    at (1000 + n * 100) (GetEnd 0 (shown.Bytes a) None false) ∷ at (1000 + n * 100) (GetBegin 0 (expects b 1000) None) ∷
+    start_shown n
 
 -- two such GETs, and one at 1,200 that shows b, which is read
 abbrev pub shown_twice : List Entry
@@ -136,14 +139,17 @@ flushed_in_order = at 2 (FlushDone 0) ∷ at 2 (PutEnd 0 true) ∷ put_begun
 
 -- zeros are written over block 3 and flushed
 abbrev pub zeros_flushed : List Entry
-zeros_flushed = at 2 (FlushDone 0) ∷ at 2 (PutEnd 3 true) ∷ at 2 (PutBegin 3 (zeros 1)) ∷ at 1 (FlushBegin 0) ∷ at 0 (Write (all_of 3) (zeros 1)) ∷ []
+zeros_flushed =
+    at 2 (FlushDone 0) ∷ at 2 (PutEnd 3 true) ∷ at 2 (PutBegin 3 (zeros 1)) ∷ at 1 (FlushBegin 0) ∷ at 0
+    (Write (all_of 3) (zeros 1)) ∷ []
 
 -- a disk of eight blocks of two bytes, all zeros
 abbrev pub small : Geometry
 small = record { block_size = 2; blocks = 8 }
 
 abbrev pub spaced_by_5 : Settings
-spaced_by_5 = record { min_write_delay = 5; md5_time = 10; md5_size = 4; cache_size = 1; write_delay = 0; clean_time = 0; max_dirty = 0; stale_limit = 0; read_ahead = 0; read_ahead_trigger = 0; threads = 1; clients = 1 }
+spaced_by_5 =
+    record { min_write_delay = 5; md5_time = 10; md5_size = 4; cache_size = 1; write_delay = 0; clean_time = 0; max_dirty = 0; stale_limit = 0; read_ahead = 0; read_ahead_trigger = 0; threads = 1; clients = 1 }
 
 abbrev pub all_zeros : Start
 all_zeros block = zeros 2
@@ -175,7 +181,9 @@ stale_refused =
 
 -- a GET, a write of the whole block before its answer, the answer, and a read that misses the write
 abbrev pub write_during_get : List Entry
-write_during_get = at 3 (Read block_3 (0 ∷ 0 ∷ [])) ∷ at 2 (GetEnd 3 shown.Absent None true) ∷ at 1 (Write block_3 six) ∷ at 0 (GetBegin 3 None None) ∷ []
+write_during_get =
+    at 3 (Read block_3 (0 ∷ 0 ∷ [])) ∷ at 2 (GetEnd 3 shown.Absent None true) ∷ at 1 (Write block_3 six) ∷ at 0
+    (GetBegin 3 None None) ∷ []
 
 -- zeros written to a block that is known to be zeros at the opening
 abbrev pub zeros_written : List Entry
@@ -195,9 +203,12 @@ is_write kind = false
 -- an entry may follow by the rules without that one
 abbrev pub MayFollowWithout : Bool → Settings → Found → List Entry → Entry → Type 0
 MayFollowWithout true settings found past entry = MayWriteDuringGet found past entry.kind
-MayFollowWithout false settings found past entry = MayFollow small settings found past entry.pass entry.reading entry.kind
+MayFollowWithout false settings found past entry =
+    MayFollow small settings found past entry.pass entry.reading entry.kind
 
 -- each entry may follow its past by the rules without that one, and readings never fall
 abbrev pub FollowsAllButOne : Settings → Found → List Entry → Type 0
 FollowsAllButOne settings found [] = Unit {0}
-FollowsAllButOne settings found (entry ∷ past) = MayFollowWithout (is_write entry.kind) settings found past entry × (last_reading past ≤ entry.reading) × FollowsAllButOne settings found past
+FollowsAllButOne settings found (entry ∷ past) =
+    MayFollowWithout (is_write entry.kind) settings found past entry × (last_reading past ≤ entry.reading)
+    × FollowsAllButOne settings found past
