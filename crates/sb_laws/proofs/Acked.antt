@@ -7,7 +7,8 @@ use Rattle.sb_history.specs.Laws.{AckedIsPossible}
 acked_in : (start : List ℕ) (puts : List Put) → Contains (possible_of start puts) (acked_of start puts)
 acked_in start [] = (0, omega arith, refl)
 acked_in start (put ∷ puts) = either (is_acknowledged put.ending) (acked_in start puts) where
-  either : (ok : Bool) → Contains (possible_of start puts) (acked_of start puts) → Contains (put.content ∷ (if ok then [] else possible_of start puts)) (if ok then put.content else acked_of start puts)
+  either : (ok : Bool) → Contains (possible_of start puts) (acked_of start puts) → Contains
+      (put.content ∷ (if ok then [] else possible_of start puts)) (if ok then put.content else acked_of start puts)
   either true at = (0, omega arith, refl)
   either false at = (suc at.0, omega (arith, at.1), at.2)
 

@@ -46,5 +46,6 @@ module _ (H : ℕ → List ℕ → Type 0) (n : ℕ) (content : List ℕ) (now :
   pub had_is : (owed c : List ℕ) → is_nil owed ≡ true → Had H n owed c → c ≡ content
   had_is owed c nil had = now c (had n (omega arith) (From-nil n owed nil))
 
-pub had_now : (H : ℕ → List ℕ → Type 0) (n : ℕ) (content owed c : List ℕ) → c ≡ content → Had (Since n content H) (suc n) owed c
+pub had_now :
+    (H : ℕ → List ℕ → Type 0) (n : ℕ) (content owed c : List ℕ) → c ≡ content → Had (Since n content H) (suc n) owed c
 had_now H n content owed c is p below all = inl is

@@ -30,18 +30,28 @@ NewestOk (put ∷ puts) = EndedOk put.ending
 abbrev pub OpenPut : ℕ → Delays → ℕ → ℕ → (ℕ → List ℕ → Type 0) → List ℕ → List Put → Type 0
 OpenPut block_size delay n r H owed [] = ⊥
 OpenPut block_size delay n r H owed (put ∷ puts) =
-    (put.ending ≡ None) × (put.place < n) × (put.reading ≤ r) × Ordered delay (put ∷ puts) × (length put.content ≡ block_size) × Had H n (filter (λ write. nat_le put.place write) owed) put.content
+    (put.ending ≡ None) × (put.place < n) × (put.reading ≤ r) × Ordered delay (put ∷ puts)
+    × (length put.content ≡ block_size) × Had H n (filter (λ write. nat_le put.place write) owed) put.content
 
-pub data Phase (block_size : ℕ) (settings : Settings) (delay : Delays) (found : Option (List ℕ)) (n r : ℕ) (known : Option (List ℕ)) (absent : Bool) (get : Option Fetch) (puts : List Put) (owed content : List ℕ) (H : ℕ → List ℕ → Type 0) : Type 0 where
-  idle : known ≡ None → get ≡ None → EndedBy n r puts → Ordered delay puts → is_nil owed ≡ true → Phase block_size settings delay found n r known absent get puts owed content H
-  getting : (fetch : Fetch) → known ≡ None → get ≡ Some fetch → absent ≡ false → fetch.place ≤ n → fetch.reading ≤ r → EndedBy fetch.place fetch.reading puts → Ordered delay puts → is_nil owed ≡ true
-      → fetch.expect ≡ expected settings fetch.reading puts → Verifies found fetch.verify → Phase block_size settings delay found n r known absent get puts owed content H
-  held : known ≡ Some content → get ≡ None → EndedBy n r puts → Ordered delay puts → Phase block_size settings delay found n r known absent get puts owed content H
-  writing : known ≡ Some content → get ≡ None → is_nil owed ≡ false → OpenPut block_size delay n r H owed puts → Phase block_size settings delay found n r known absent get puts owed content H
+pub data Phase (block_size : ℕ) (settings : Settings) (delay : Delays) (found : Option (List ℕ)) (n r : ℕ)
+    (known : Option (List ℕ)) (absent : Bool) (get : Option Fetch) (puts : List Put) (owed content : List ℕ)
+    (H : ℕ → List ℕ → Type 0) : Type 0 where
+  idle : known ≡ None → get ≡ None → EndedBy n r puts → Ordered delay puts → is_nil owed ≡ true
+      → Phase block_size settings delay found n r known absent get puts owed content H
+  getting : (fetch : Fetch) → known ≡ None → get ≡ Some fetch → absent ≡ false → fetch.place ≤ n → fetch.reading ≤ r
+      → EndedBy fetch.place fetch.reading puts → Ordered delay puts → is_nil owed ≡ true
+      → fetch.expect ≡ expected settings fetch.reading puts → Verifies found fetch.verify
+      → Phase block_size settings delay found n r known absent get puts owed content H
+  held : known ≡ Some content → get ≡ None → EndedBy n r puts → Ordered delay puts
+      → Phase block_size settings delay found n r known absent get puts owed content H
+  writing : known ≡ Some content → get ≡ None → is_nil owed ≡ false → OpenPut block_size delay n r H owed puts
+      → Phase block_size settings delay found n r known absent get puts owed content H
 
 -- a block's state: its phase; what is in the store it had since each place that no owed write stands before;
 -- a block that is known to be zeros has nothing else in the store; one that owes nothing was acknowledged last
-abbrev pub Holds : ℕ → Settings → Delays → Option (List ℕ) → List ℕ → ℕ → ℕ → Option (List ℕ) → Bool → Option Fetch → List Put → List ℕ → List ℕ → (ℕ → List ℕ → Type 0) → Type 0
+abbrev pub Holds :
+    ℕ → Settings → Delays → Option (List ℕ) → List ℕ → ℕ → ℕ → Option (List ℕ) → Bool → Option Fetch → List Put → List ℕ
+    → List ℕ → (ℕ → List ℕ → Type 0) → Type 0
 Holds block_size settings delay found start n r known absent get puts owed content H =
     Phase block_size settings delay found n r known absent get puts owed content H
     × Each (Had H n owed) (possible_of start puts)
@@ -49,6 +59,7 @@ Holds block_size settings delay found start n r known absent get puts owed conte
     × (absent ≡ false → is_nil owed ≡ true → NewestOk puts)
 
 -- something is in the store
-pub some_remains : (start : List ℕ) (puts : List Put) (P Q : List ℕ → Type 0) → Each P (possible_of start puts) → Each Q (possible_of start puts) → (x : List ℕ) × P x × Q x
+pub some_remains : (start : List ℕ) (puts : List Put) (P Q : List ℕ → Type 0) → Each P (possible_of start puts)
+    → Each Q (possible_of start puts) → (x : List ℕ) × P x × Q x
 some_remains start [] P Q a b = (start, a.0, b.0)
 some_remains start (put ∷ puts) P Q a b = (put.content, a.0, b.0)
