@@ -23,7 +23,7 @@ use Rattle.sb_history.specs.AccessRules.{last_reading, CarriesPart, FollowsAcces
 use Rattle.sb_history.specs.CachePolicy.{FollowsCachePolicy}
 use Rattle.sb_history.specs.States.{state_at, next_state}
 use Rattle.sb_history.specs.Soundness.{IsSoundHistory, IsUnwindowed}
-use Rattle.sb_history.specs.Passes.{IsOfPass}
+use Rattle.sb_history.specs.Passes.{entries_of_pass, IsOfPass}
 use Rattle.sb_history.specs.Requests.{RequestLog}
 use Rattle.sb_history.specs.ClockTrace.{Caller, ClockTrace, NonePauses, OneReadingEach}
 
@@ -63,6 +63,13 @@ abbrev pub UnwindowedSurvivesCrash : Type 0
 UnwindowedSurvivesCrash =
     (geometry : Geometry) (settings : Settings) (found : Found) (start : Start) (past : List Entry)
     → IsUnwindowed geometry settings found start past → IsCrashDurable start past
+
+-- without a window no GET has a digest to show
+abbrev pub UnwindowedExpectsNothing : Type 0
+UnwindowedExpectsNothing =
+    (geometry : Geometry) (settings : Settings) (found : Found) (past : List Entry)
+    → FollowsAccessRules geometry settings found past → settings.md5_size ≡ 0 → (block : ℕ) (fetch : Fetch)
+    → fetch_of past block ≡ Some fetch → fetch.expect ≡ None
 
 -- what a GET that begins when the store has settled may show is what the store may come to hold
 abbrev pub SettledIsPossible : Type 0
@@ -160,3 +167,13 @@ PlainTraceHolds =
     (ticks : List Tick)
     → IsOfPass caller.pass entries → NonePauses geometry settings before entries → OneReadingEach before entries ticks
     → ClockTrace geometry settings caller before entries next ticks
+
+-- the entries of a pass in two segments of a history are those in both
+abbrev pub PassesJoin : Type 0
+PassesJoin =
+    (earlier later : List Entry) (pass : ℕ)
+    → entries_of_pass (later ++ earlier) pass ≡ entries_of_pass later pass ++ entries_of_pass earlier pass
+
+-- where each entry is of one pass, its entries are the history
+abbrev pub OnePassIsAll : Type 0
+OnePassIsAll = (past : List Entry) (pass : ℕ) → IsOfPass pass past → entries_of_pass past pass ≡ past

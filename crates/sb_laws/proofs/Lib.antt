@@ -20,3 +20,5 @@ pub mod Joins
 pub mod StaleRows
 pub mod ValueRows
 pub mod TraceRows
+pub mod Passes
+pub mod Unwindowed

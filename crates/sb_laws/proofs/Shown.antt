@@ -162,7 +162,7 @@ shown_digest block_size contents content digest (Some known) shown.Same only ans
     sym digests ∙ sym answers.2 ∙ ap md5 same
 
 -- without a window no digest is expected
-nothing_expected :
+pub nothing_expected :
     (settings : Settings) (r : ℕ) (puts : List Put) → settings.md5_size ≡ 0 → expected settings r puts ≡ None
 nothing_expected settings r [] off = refl
 nothing_expected settings r (put ∷ puts) off = by put.ending where

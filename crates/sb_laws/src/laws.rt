@@ -5,6 +5,8 @@ ghost use Rattle.sb_history.specs.Laws.{
   CheckedSettingsCover,
   ClockTracesJoin,
   NextMountIsRecent,
+  OnePassIsAll,
+  PassesJoin,
   PlainTraceHolds,
   RequestsJoin,
   SettledIsPossible,
@@ -15,6 +17,7 @@ ghost use Rattle.sb_history.specs.Laws.{
   StaleIsYoung,
   StampsAreEpochs,
   StatesGoByTable,
+  UnwindowedExpectsNothing,
   UnwindowedFlushes,
   UnwindowedIsLegal,
   UnwindowedSurvivesCrash,
@@ -48,6 +51,11 @@ pub fn unwindowed_flushes()
 /// The same of crashes.
 pub fn unwindowed_survives_crash()
     ensures { UnwindowedSurvivesCrash }
+{}
+
+/// Without a window no GET has a digest to show, so that an answer that did not fail may be taken.
+pub fn unwindowed_expects_nothing()
+    ensures { UnwindowedExpectsNothing }
 {}
 
 /// After a crash the next mount reads what each block held since the last flush that is done began.
@@ -103,4 +111,14 @@ pub fn clock_traces_join()
 /// Where no entry is followed by a pause, one reading for each is the clock's trace.
 pub fn plain_trace_holds()
     ensures { PlainTraceHolds }
+{}
+
+/// The entries of a pass in two segments of a history are those in both.
+pub fn passes_join()
+    ensures { PassesJoin }
+{}
+
+/// Where each entry is of one pass, its entries are the history.
+pub fn one_pass_is_all()
+    ensures { OnePassIsAll }
 {}
