@@ -12,6 +12,7 @@ fn a_text_has_its_bytes(rt: HostRuntime) -> Result<(), Fail> {
     assert_eq!(rt; text.bytes(), b"disk".as_slice());
     let same = Text::from_vec(b"disk".to_vec(rt.alloc())?);
     assert_eq!(rt; same.bytes(), text.bytes());
+    assert_eq!(rt; same.into_vec().as_slice(), b"disk".as_slice());
     Ok(())
 }
 

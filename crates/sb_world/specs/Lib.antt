@@ -1,3 +1,4 @@
 pub mod Told
 pub mod Streams
 pub mod Calls
+pub mod Benches

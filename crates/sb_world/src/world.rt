@@ -1,15 +1,16 @@
 //! What a program is given.
 
-ghost use Rattle.std.specs.Prelude.{◌≡◌, ◌≤◌, ℕ, List, [], ◌∷◌, Option, IfOk, IfSome, IsErrOf, vec_len};
+ghost use Rattle.std.specs.Prelude.{◌≡◌, ◌≤◌, ℕ, List, [], ◌∷◌, Option, IfOk, IfSome, IsErrOf, length};
 ghost use Rattle.sb_world.specs.Told.{Gains, CountsFaults};
-ghost use Rattle.sb_world.specs.declared.world.Bench.{Bench};
+ghost use Rattle.sb_world.specs.Benches.{BenchParts, with_links};
 
 use crate::clock::Clock;
 use crate::link::Link;
 use crate::stream::{Sink, Source};
+use std::marker::Model;
 
 /// What a program works with: its links to the store, a clock, where bytes come from and go to, and where a line about a
-/// fault goes.
+/// fault goes. It is seen with its links as a list.
 #[derive(Drop)]
 pub struct Bench<L, C, R, S> {
     pub links: Vec<L>,
@@ -17,6 +18,14 @@ pub struct Bench<L, C, R, S> {
     pub input: R,
     pub output: S,
     pub errors: S,
+}
+
+impl<L, C, R, S> Model for Bench<L, C, R, S> {
+    ghost use Rattle.sb_world.specs.Benches.{BenchParts};
+
+    ghost Value = { BenchParts L C R S };
+
+    ghost view = { λ b. record { links = b.links.items; clock = b.clock; input = b.input; output = b.output; errors = b.errors } };
 }
 
 /// Why no bench was made.
@@ -40,11 +49,11 @@ pub trait World {
     /// How often it has failed.
     ghost faults: { Self → ℕ };
 
-    /// The bench that it hands out next, where it tells it.
-    ghost next: { Self → Option (Bench Self.Link Self.Clock Self.Source Self.Sink) };
+    /// What its next bench is made of, where it tells that: the links are the first of these.
+    ghost next: { Self → Option (BenchParts Self.Link Self.Clock Self.Source Self.Sink) };
 
     /// The bench that was shut last, where it tells it.
-    ghost last: { Self → Option (Bench Self.Link Self.Clock Self.Source Self.Sink) };
+    ghost last: { Self → Option (BenchParts Self.Link Self.Clock Self.Source Self.Sink) };
 
     /// The lines said so far, where it tells them.
     ghost said: { Self → Option (List (List ℕ)) };
@@ -54,8 +63,8 @@ pub trait World {
         &mut self,
         links: u32,
     ) -> Result<Bench<Self::Link, Self::Clock, Self::Source, Self::Sink>, MakeFault>
-        ensures links { IfOk result (λ bench. vec_len bench.links ≡ links) }
-        ensures next { IfOk result (λ bench. IfSome (next self.old) (λ told. bench ≡ told)) }
+        ensures links { IfOk result (λ bench. length bench.links ≡ links) }
+        ensures next { IfOk result (λ bench. IfSome (next self.old) (λ told. bench ≡ with_links links told)) }
         ensures cause { CountsFaults (faults self.old) (faults self.new) (IsErrOf result MakeFault.Store) }
         ensures frame { (last self.new ≡ last self.old) × (said self.new ≡ said self.old) };
 
