@@ -1,0 +1,69 @@
+//! A clock that its pauses move.
+
+ghost use Rattle.std.specs.Prelude.{◌≡◌, ◌≤◌, ◌^◌, Some, []};
+
+use crate::kept::Kept;
+use sb_world::{Clock, Tick};
+use std::alloc::Global;
+
+/// The last reading that a clock gives, in milliseconds.
+const LAST_READING: u64 = 1 << 62;
+
+/// A clock that its pauses move. Reading it moves nothing.
+#[derive(Drop)]
+pub struct HandClock {
+    reading: u64,
+    latest: u64,
+    moment: i64,
+    stalled: bool,
+    ticks: Kept<Tick>,
+    moments: Kept<i64>,
+    ghost limit: { reading ≤ 2 ^ 62 },
+    ghost later: { latest ≤ reading },
+}
+
+impl HandClock {
+    /// A clock at a reading in milliseconds, whose moment in seconds since 1970 stands still. A pause moves the reading, at
+    /// most to 2^62; that of a stalled clock stands still too.
+    pub fn new(alloc: Global, reading: u64, moment: i64, stalled: bool) -> HandClock
+        requires { reading ≤ 2 ^ 62 }
+        ensures ticks { result.ticks ≡ Some [] }
+        ensures moments { result.moments ≡ Some [] }
+        ensures latest { result.latest ≡ 0 }
+    {
+        HandClock {
+            reading,
+            latest: 0,
+            moment,
+            stalled,
+            ticks: Kept::new(alloc),
+            moments: Kept::new(alloc),
+        }
+    }
+}
+
+impl Clock for HandClock {
+    ghost ticks = { λ clock. clock.ticks };
+
+    ghost moments = { λ clock. clock.moments };
+
+    ghost latest = { λ clock. clock.latest };
+
+    fn now(&mut self) -> u64 {
+        self.latest = self.reading;
+        self.ticks.add(Tick::Taken(self.reading));
+        self.reading
+    }
+
+    fn moment(&mut self) -> i64 {
+        self.moments.add(self.moment);
+        self.moment
+    }
+
+    fn pause(&mut self, millis: u64) {
+        if !self.stalled {
+            self.reading = self.reading.saturating_add(millis).min(LAST_READING);
+        }
+        self.ticks.add(Tick::Paused(millis));
+    }
+}

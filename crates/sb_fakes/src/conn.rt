@@ -1,0 +1,101 @@
+//! One end of a connection in memory.
+
+ghost use Rattle.std.specs.Prelude.{◌≡◌, ◌≢◌, ◌≤◌, ◌<◌, Some, [], drop, length, vec_len};
+
+use sb_base::Text;
+use sb_world::{ReadFault, Sink, Source, WriteFault};
+use std::alloc::Global;
+
+/// A source of some bytes, or a sink. The calls in `fails`, counted from 1, fail.
+#[derive(Drop)]
+pub struct MemoryConn {
+    bytes: Vec<u8>,
+    at: usize,
+    piece: u32,
+    fails: Vec<u64>,
+    calls: u64,
+    faults: u64,
+    ghost within: { at ≤ vec_len bytes },
+    ghost some: { 0 < piece },
+}
+
+impl MemoryConn {
+    /// A source of these bytes, at most `piece` of them by a read.
+    pub fn source(body: Text, piece: u32, fails: Vec<u64>) -> MemoryConn
+        requires { piece ≢ 0 }
+        ensures bytes { drop result.at result.bytes.items ≡ body }
+        ensures faults { result.faults ≡ 0 }
+    {
+        MemoryConn {
+            bytes: body.into_vec(),
+            at: 0,
+            piece,
+            fails,
+            calls: 0,
+            faults: 0,
+        }
+    }
+
+    /// A sink that holds nothing yet.
+    pub fn sink(alloc: Global, fails: Vec<u64>) -> MemoryConn
+        ensures bytes { drop result.at result.bytes.items ≡ [] }
+        ensures faults { result.faults ≡ 0 }
+    {
+        MemoryConn {
+            bytes: Vec::new(alloc),
+            at: 0,
+            piece: 1,
+            fails,
+            calls: 0,
+            faults: 0,
+        }
+    }
+
+    /// What a source has left, or a sink holds.
+    pub fn bytes(&self) -> &[u8]
+        ensures { result.now ≡ drop self.now.at self.now.bytes.items }
+    {
+        &self.bytes[self.at..]
+    }
+
+    /// Counts a call, and a fault where it is one that fails.
+    fn fails_now(&mut self) -> bool
+        ensures bytes { (self.new.bytes ≡ self.old.bytes) × (self.new.at ≡ self.old.at) }
+        ensures faults { self.new.faults ≡ self.old.faults }
+    {
+        self.calls = self.calls.saturating_add(1);
+        self.fails.contains(&self.calls)
+    }
+}
+
+impl Source for MemoryConn {
+    ghost left = { λ conn. Some (drop conn.at conn.bytes.items) };
+
+    ghost faults = { λ conn. conn.faults };
+
+    fn read(&mut self, out: &mut [u8]) -> Result<usize, ReadFault> {
+        if self.fails_now() {
+            self.faults = self.faults.saturating_add(1);
+            return Err(ReadFault::Failed);
+        }
+        let left = self.bytes();
+        let count = left.len().min(self.piece as usize).min(out.len());
+        out[..count].copy_from_slice(&left[..count]);
+        self.at += count;
+        Ok(count)
+    }
+}
+
+impl Sink for MemoryConn {
+    ghost held = { λ conn. Some (drop conn.at conn.bytes.items) };
+
+    ghost faults = { λ conn. conn.faults };
+
+    fn write(&mut self, bytes: &[u8]) -> Result<(), WriteFault> {
+        if self.fails_now() || self.bytes.extend_from_slice(bytes).is_err() {
+            self.faults = self.faults.saturating_add(1);
+            return Err(WriteFault::Failed);
+        }
+        Ok(())
+    }
+}

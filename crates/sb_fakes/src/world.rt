@@ -1,0 +1,137 @@
+//! A world in memory.
+
+ghost use Rattle.std.specs.Prelude.{◌≡◌, ◌≤◌, ◌<◌, Some, [], true, IfOk, IfSome, take, vec_len};
+ghost use Rattle.sb_fakes.specs.Worlds.{next_of, told_list};
+
+use crate::clock::HandClock;
+use crate::conn::MemoryConn;
+use sb_base::Text;
+use sb_world::{Bench, Link, MakeFault, World};
+use std::alloc::{AllocError, Global};
+
+/// A bench of fakes over a link.
+type MemoryBench<L> = Bench<L, HandClock, MemoryConn, MemoryConn>;
+
+/// A world that hands out what it was given, each from the front, and keeps the bench that was shut last and the lines
+/// that were said. A bench takes its `output` before its `errors`. A missing part is `MakeFault::Store`.
+#[derive(Drop)]
+pub struct MemoryWorld<L> {
+    alloc: Global,
+    links: Vec<L>,
+    clocks: Vec<HandClock>,
+    inputs: Vec<MemoryConn>,
+    sinks: Vec<MemoryConn>,
+    faults: u64,
+    /// The lines said, the oldest first.
+    pub said: Vec<Text>,
+    said_whole: bool,
+    /// The bench that was shut last.
+    pub last: Option<MemoryBench<L>>,
+}
+
+impl<L: Link + Drop> MemoryWorld<L> {
+    /// A world of these links, clocks and ends of connections.
+    pub fn new(
+        alloc: Global,
+        links: Vec<L>,
+        clocks: Vec<HandClock>,
+        inputs: Vec<MemoryConn>,
+        sinks: Vec<MemoryConn>,
+    ) -> MemoryWorld<L>
+        ensures parts { (result.links ≡ links) × (result.clocks ≡ clocks) × (result.inputs ≡ inputs) × (result.sinks ≡ sinks) }
+        ensures faults { result.faults ≡ 0 }
+        ensures said { told_list result.said.items result.said_whole ≡ Some [] }
+    {
+        MemoryWorld {
+            alloc,
+            links,
+            clocks,
+            inputs,
+            sinks,
+            faults: 0,
+            said: Vec::new(alloc),
+            said_whole: true,
+            last: None,
+        }
+    }
+
+    /// Whether there are the parts of a bench with so many links.
+    fn has_parts(&self, links: usize) -> bool
+        ensures { result ≡ true → (links ≤ vec_len self.now.links) × (0 < vec_len self.now.clocks) × (0 < vec_len self.now.inputs) × (2 ≤ vec_len self.now.sinks) }
+    {
+        self.links.len() >= links
+            && !self.clocks.is_empty()
+            && !self.inputs.is_empty()
+            && self.sinks.len() >= 2
+    }
+}
+
+/// The first of some items, taken out.
+fn take_front<X: Drop>(
+    alloc: Global,
+    items: &mut Vec<X>,
+    count: usize,
+) -> Result<Vec<X>, AllocError>
+    requires { count ≤ vec_len items.old }
+    ensures { IfOk result (λ front. front.items ≡ take count items.old.items) }
+{
+    let mut front = Vec::with_capacity(alloc, count)?;
+    for _i in 0..count {
+        front.push(items.remove(0))?;
+    }
+    Ok(front)
+}
+
+impl<L: Link + Drop> World for MemoryWorld<L> {
+    type Link = L;
+
+    type Clock = HandClock;
+
+    type Source = MemoryConn;
+
+    type Sink = MemoryConn;
+
+    ghost faults = { λ world. world.faults };
+
+    ghost next = { λ world. next_of world.links.items world.clocks.items world.inputs.items world.sinks.items };
+
+    ghost last = { λ world. world.last };
+
+    ghost said = { λ world. told_list world.said.items world.said_whole };
+
+    fn bench(&mut self, links: u32) -> Result<MemoryBench<L>, MakeFault> {
+        if !self.has_parts(links as usize) {
+            self.faults = self.faults.saturating_add(1);
+            return Err(MakeFault::Store);
+        }
+        match take_front(self.alloc, &mut self.links, links as usize) {
+            Ok(links) => Ok(Bench {
+                links,
+                clock: self.clocks.remove(0),
+                input: self.inputs.remove(0),
+                output: self.sinks.remove(0),
+                errors: self.sinks.remove(0),
+            }),
+            Err(_) => Err(MakeFault::Memory),
+        }
+    }
+
+    fn shut(&mut self, bench: MemoryBench<L>)
+        ensures last { IfSome self.new.last (λ told. told ≡ bench) }
+        ensures faults { self.old.faults ≤ self.new.faults }
+        ensures frame { told_list self.new.said.items self.new.said_whole ≡ told_list self.old.said.items self.old.said_whole }
+    {
+        self.last = Some(bench);
+    }
+
+    fn say(&mut self, line: &[u8]) {
+        match Text::of(self.alloc, line) {
+            Ok(line) => {
+                if self.said.push(line).is_err() {
+                    self.said_whole = false;
+                }
+            }
+            Err(_) => self.said_whole = false,
+        }
+    }
+}
