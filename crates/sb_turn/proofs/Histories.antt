@@ -1,5 +1,5 @@
 -- The entries of one pass in a history, and accounts.
-use Rattle.std.proofs.Common.{inl, inr, ◌⊎◌, ◌≡◌, ℕ, ◌+◌, ◌<◌, ◌≤◌, ◌≢◌, List, [], ◌∷◌, ◌++◌, length, Bool, true, false, cond, sym, refl, ap, ◌∙◌, subst, arith, eqb, eq-eqb, ne_eqb, length-append}
+use Rattle.std.proofs.Common.{inl, inr, ◌⊎◌, ◌≡◌, ℕ, ◌+◌, ◌<◌, ◌≤◌, ◌≢◌, List, [], ◌∷◌, ◌++◌, length, Bool, true, false, cond, sym, refl, ap, ◌∙◌, subst, arith, eqb, eq-eqb, ne_eqb, length-append, append_assoc}
 use Rattle.std.specs.Prelude.{nat_lt}
 use mathlib.Core.Logic.{dite}
 use native.Mathlib.Decide.{ℕ_discrete}
@@ -97,13 +97,20 @@ module _ {E : Type 0} where
   reaches (x ∷ p) [] a b e le = absurd (let l = ap length e in let s = length-append p a in omega arith)
   reaches (x ∷ p) (y ∷ q) a b e le = reaches p q a b (ap tail_of e) le
 
-  all_of_it : (a : List (ℕ × E)) → IsPast a a
-  all_of_it a = ([], refl)
+  pub IsPast-refl : (a : List (ℕ × E)) → IsPast a a
+  IsPast-refl a = ([], refl)
+
+  pub IsPast-trans : (a b c : List (ℕ × E)) → IsPast a b → IsPast b c → IsPast a c
+  IsPast-trans a b c p q = (q.0 ++ p.0, q.1 ∙ (ap (λ z. q.0 ++ z) p.1 ∙ sym (append_assoc q.0 p.0 a)))
+
+  -- a past stays one when entries are made
+  pub IsPast-append : (past history made : List (ℕ × E)) → IsPast past history → IsPast past (made ++ history)
+  IsPast-append past history made p = (made ++ p.0, ap (λ z. made ++ z) p.1 ∙ sym (append_assoc made p.0 past))
 
   longest_by : (c : Bool) (history a b : List (ℕ × E)) → nat_lt (length a) (length b) ≡ c → IsPast a history → IsPast b history
       → IsPast (cond c b a) history × IsPast a (cond c b a) × IsPast b (cond c b a)
-  longest_by true history a b is p q = (q, reaches q.0 p.0 b a (sym q.1 ∙ p.1) (let le = ltb-true (length a) (length b) is in omega arith), all_of_it b)
-  longest_by false history a b is p q = (p, all_of_it a, reaches p.0 q.0 a b (sym p.1 ∙ q.1) (ltb-false (length a) (length b) is))
+  longest_by true history a b is p q = (q, reaches q.0 p.0 b a (sym q.1 ∙ p.1) (let le = ltb-true (length a) (length b) is in omega arith), IsPast-refl b)
+  longest_by false history a b is p q = (p, IsPast-refl a, reaches p.0 q.0 a b (sym p.1 ∙ q.1) (ltb-false (length a) (length b) is))
 
   -- the longer is a past of the history too, and both are pasts of it
   pub longest : (history a b : List (ℕ × E)) → IsPast a history → IsPast b history → IsPast (longer a b) history × IsPast a (longer a b) × IsPast b (longer a b)

@@ -1,5 +1,5 @@
 -- Each step of the lock keeps its rule.
-use Rattle.std.proofs.Common.{◌≡◌, ℕ, Bool, cond, eq-eqb, ne_eqb, zero, suc, ◌+◌, ◌%◌, ◌^◌, ◌<◌, ◌≤◌, eqb, ◌≢◌, inl, inr, List, [], ◌∷◌, ◌++◌, get_or, set, sym, refl, ap, ◌∙◌, subst, ⊎_elim, arith, le_refl, lt_of_not-le, mod-eq_of_lt, length-set, length-append, append-nil, append_assoc}
+use Rattle.std.proofs.Common.{◌≡◌, ℕ, Bool, cond, eq-eqb, ne_eqb, zero, suc, ◌+◌, ◌%◌, ◌^◌, ◌<◌, ◌≤◌, eqb, ◌≢◌, inl, inr, List, [], ◌∷◌, ◌++◌, get_or, set, sym, refl, ap, ◌∙◌, subst, ⊎_elim, arith, le_refl, lt_of_not-le, mod-eq_of_lt, length-set, length-append, append-nil}
 use mathlib.Core.Logic.{dite}
 use mathlib.Core.Option.{none, some, some-injective, some-ne-none}
 use native.Mathlib.Decide.{ℕ_discrete, dec_le}
@@ -10,13 +10,13 @@ use Rattle.atomic_table.specs.Table.{State, Me, step, Act, keeps, takes, gives, 
 use Rattle.sb_turn.specs.declared.view.View.{View}
 use Rattle.sb_turn.specs.declared.view.Stage.{Stage}
 use Rattle.sb_turn.specs.declared.view.Stage.TheVariants.{Out, Waits, Inside, Made}
-use Rattle.sb_turn.specs.Histories.{entries_of_pass, IsPast, IsEntryOf}
+use Rattle.sb_turn.specs.Histories.{entries_of_pass, IsEntryOf}
 use Rattle.sb_turn.specs.Views.{one_if, number_or_zero, times, total, ticket_count, ticket_held, entry_made, HasTurn, count, AccountsMatch, reserved_account, accounts, claims, ticket_count_of, ticket_held_of, entry_made_of, first_view, at_stage, with_turn, with_entry, with_reserved, without_reserved, newcomer, union_of, spent_view, IsWhole, IsConsistent}
 use Rattle.sb_turn.specs.Rule.{TurnTaken, Fits, AtHome, IsOrdered}
 use Rattle.sb_turn.specs.Steps.{draws, adds, passes_on, looks, numbers, learns}
 use Rattle.atomic_table.proofs.Lists.{at_set, set_again, set_else, set_here, exchanged, at_snoc, at_longer}
 use Rattle.sb_turn.proofs.Sums.{one_if_same, one_if_other, total_set, total_snoc, total_at, total_two, total_zero, times_append}
-use Rattle.sb_turn.proofs.Histories.{entries-append, entries_other, own_same, own_other, own_one, count_append, all_append, changed, all_whole, all_seen, all_first, all_last, none_seen, longest, between, middle, all_zero, agree, same_list}
+use Rattle.sb_turn.proofs.Histories.{entries-append, entries_other, own_same, own_other, own_one, count_append, all_append, changed, all_whole, all_seen, all_first, all_last, none_seen, longest, between, middle, all_zero, agree, same_list, IsPast-append}
 
 at_here : {A : Type 0} (l : List A) (i : ℕ) (v w : A) → get_elem? l i ≡ some v → get_elem? (set l i w) i ≡ some w
 at_here [] i v w e = absurd (some-ne-none v (sym e))
@@ -255,10 +255,6 @@ module _ {S E B : Type 0} (stands : S → List (ℕ × E) → Type 0) (base : S 
       ))
       (λ miss. (me.0, keeps, tt, stays s r 1 id me at, ((λ is. absurd (miss (ap ticket_in (sym waits ∙ is) ∙ found))), λ _. refl)))
 
-  -- a past stays one
-  grown : (past history made : List (ℕ × E)) → IsPast past history → IsPast past (made ++ history)
-  grown past history made p = (made ++ p.0, ap (λ z. made ++ z) p.1 ∙ sym (append_assoc made p.0 past))
-
   adds_at : (s : St) (r : Rule s) (id : ℕ) (me : M) (t m : ℕ) (xs : List (ℕ × E)) → get_elem? s.views id ≡ some me.0 → me.0.stage ≡ Inside t → 0 < me.0.number → IsEntryOf me.0.number xs → m ≡ r.made + 1
       → Rule (stepped s 2 m id me.1 (with_entry me.0 t xs) keeps)
   adds_at s r id me t m xs at has pos own more = let w : V = with_entry me.0 t xs in let k' = r.kept in let old = k'.each_seat id me.0 at in let n : ℕ = me.0.number in let history' : List (ℕ × E) = xs ++ r.history in
@@ -309,7 +305,7 @@ module _ {S E B : Type 0} (stands : S → List (ℕ × E) → Type 0) (base : S 
               })
               (λ j d ne e. let f = k'.each_seat j d e in record {
                 based = f.based;
-                past_seen = grown d.seen r.history xs f.past_seen;
+                past_seen = IsPast-append d.seen r.history xs f.past_seen;
                 exact = changed n r.history d.seen history' d.seen (λ k other. (entries_other k xs r.history (own_other n k xs other own), refl)) (accounts d)
                     (let b = k'.once n pos in let c = total_two (claims n) s.views j id d me.0 ne e at in omega arith) f.exact;
                 last = f.last;
