@@ -7,6 +7,10 @@ use Rattle.sb_turn.specs.declared.held.Held.{Held}
 use Rattle.sb_turn.specs.declared.turn.Turn.{Turn}
 use Rattle.sb_turn.specs.Views.{Account, IsConsistent, IsWhole}
 
+-- how often a waiter looks before it sleeps
+abbrev pub looks_of : {S E B : Type 0} → Turn S E B → ℕ
+looks_of t = t.looks
+
 -- the value of a turn
 abbrev pub held : {S E B : Type 0} → Held S E B → S
 held h = h.value

@@ -10,7 +10,7 @@ use crate::held::Held;
 use crate::pass::Pass;
 use crate::stands::Stands;
 use crate::step::{Add, PassOn};
-use crate::turn::{ENTRIES, Place, SERVING, Turn, VALUE};
+use crate::turn::{ENTRIES, NEXT_TICKET, Place, SERVING, Turn, VALUE};
 
 impl<S: Stands> Turn<S> {
     /// Gives the value back. The history gains the entry that the call picked.
@@ -22,7 +22,7 @@ impl<S: Stands> Turn<S> {
         ensures seen { seen pass.new ≡ M.made ++ seen pass.old }
         ensures mine { mine pass.new ≡ M.made ++ mine pass.old }
     {
-        let Held { value } = held;
+        let value = held.into_value();
         self.add::<M>(&mut pass.seat);
         self.give_back(&mut pass.seat, value);
     }
@@ -34,8 +34,7 @@ impl<S: Stands> Turn<S> {
         ensures pass { IsSamePass pass.old pass.new × IsFree pass.new }
         ensures history { (seen pass.new ≡ seen pass.old) × (mine pass.new ≡ mine pass.old) }
     {
-        let Held { value } = held;
-        self.give_back(&mut pass.seat, value);
+        self.give_back(&mut pass.seat, held.into_value());
     }
 
     // Makes the entry of the turn.
@@ -65,7 +64,8 @@ impl<S: Stands> Turn<S> {
         self.pass_on(seat);
     }
 
-    // The next ticket is served, and those who sleep look again.
+    // The next ticket is served, and those who sleep look again. Whoever draws a ticket after the last
+    // line's look finds the turn passed on, and needs no waking.
     fn pass_on(&self, seat: &mut Place<S>)
         requires own { seat.old.table_id ≡ self.now.table.shared.table_id }
         requires turn { ((t : ℕ) × HasTurn t seat.old.me.0.stage) × (0 < seat.old.me.0.number) }
@@ -73,7 +73,9 @@ impl<S: Stands> Turn<S> {
         ensures own { (seat.new.table_id ≡ seat.old.table_id) × (seat.new.id ≡ seat.old.id) }
         ensures out { seat.new.me ≡ (at_stage seat.old.me.0 Out, []) }
     {
-        self.table.shared.fetch_add::<PassOn>(seat, SERVING, 1);
-        self.table.shared.wake_all(SERVING);
+        let served = self.table.shared.fetch_add::<PassOn>(seat, SERVING, 1);
+        if self.table.shared.peek(NEXT_TICKET) != served.wrapping_add(1) {
+            self.table.shared.wake_all(SERVING);
+        }
     }
 }

@@ -19,4 +19,11 @@ impl<S: Stands> Held<S> {
     {
         &mut self.value
     }
+
+    pub(crate) fn into_value(self) -> S
+        ensures { result ≡ self.value }
+    {
+        let Held { value } = self;
+        value
+    }
 }

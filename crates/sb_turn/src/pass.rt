@@ -15,6 +15,9 @@ pub struct Pass<S: Stands> {
 }
 
 impl<S: Stands> Pass<S> {
+    ghost use Rattle.std.specs.Prelude.{ℕ, ◌≤◌};
+    ghost use Rattle.sb_turn.specs.Histories.{entries_of_pass};
+    ghost use Rattle.sb_turn.specs.Views.{count, AccountsMatch};
     ghost use Rattle.sb_turn.specs.Passes.{number, seen, mine, joined, IsFree};
 
     /// No other pass of the lock ever has this number. 0 is the number of no pass.
@@ -23,4 +26,13 @@ impl<S: Stands> Pass<S> {
     {
         self.number
     }
+
+    /// What a pass keeps outside a turn is exact. It does nothing.
+    pub fn outside_a_turn(&self)
+        requires { IsFree self.now }
+        ensures own { entries_of_pass (number self.now) (seen self.now) ≡ mine self.now }
+        ensures joined { AccountsMatch (seen self.now) (seen self.now) (joined self.now) }
+        ensures apart { (k : ℕ) → 0 < k → count k (joined self.now) ≤ 1 }
+        ensures not_own { count (number self.now) (joined self.now) ≡ 0 }
+    {}
 }
