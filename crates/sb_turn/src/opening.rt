@@ -11,7 +11,7 @@ use std::alloc::{AllocError, Global};
 use std::snapshot::Snapshot;
 
 /// How often a waiter looks before it sleeps, unless the lock is made `with_looks`.
-const LOOKS: u32 = 100;
+const LOOKS: u32 = 10;
 
 impl<S: Stands + Drop> Turn<S> {
     /// A lock round the value, and the first pass.

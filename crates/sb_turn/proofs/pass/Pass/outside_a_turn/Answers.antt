@@ -1,5 +1,5 @@
-use Rattle.std.proofs.Common.{◌<◌, ◌≡◌, ℕ, subst, refl, arith}
-use Rattle.sb_turn.specs.Views.{one_if, count, reserved_account}
+use Rattle.std.proofs.Common.{◌<◌, ℕ, subst, refl, arith}
+use Rattle.sb_turn.specs.Views.{reserved_account}
 use Rattle.sb_turn.proofs.Sums.{one_if_same}
 use Rattle.sb_turn.proofs.Histories.{count_append, all_last}
 use Rattle.sb_turn.proofs.pass.Pass.outside_a_turn.Goals as goal

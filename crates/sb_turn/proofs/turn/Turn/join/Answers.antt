@@ -1,5 +1,5 @@
 use Rattle.std.proofs.Common.{rules, ◌<◌, ℕ, subst}
-use Rattle.sb_turn.proofs.Keeps.{joins_keep}
+use Rattle.sb_turn.proofs.Splitting.{joins_keep}
 use Rattle.sb_turn.proofs.turn.Turn.join.Goals as goal
 
 pub join_seat-requires : goal.join_seat-requires

@@ -1,5 +1,5 @@
 use Rattle.std.proofs.Common.{rules}
-use Rattle.sb_turn.proofs.Keeps.{numbers_keep}
+use Rattle.sb_turn.proofs.Splitting.{numbers_keep}
 use Rattle.sb_turn.proofs.turn.Turn.reserve.Goals as goal
 
 pub compare_exchange-requires : goal.compare_exchange-requires

@@ -1,5 +1,5 @@
 use Rattle.std.proofs.Common.{rules, arith, ◌<◌, ℕ, subst, ap, sym, ◌∙◌}
-use Rattle.sb_turn.proofs.Keeps.{splits_keep}
+use Rattle.sb_turn.proofs.Splitting.{splits_keep}
 use Rattle.sb_turn.proofs.turn.Turn.split.Goals as goal
 
 pub split_seat-seat-requires : goal.split_seat-seat-requires

@@ -4,7 +4,7 @@ use Rattle.atomic_table.specs.Table.{opening}
 use Rattle.sb_turn.specs.Histories.{entries_of_pass}
 use Rattle.sb_turn.specs.Views.{first_view}
 use Rattle.sb_turn.specs.Rule.{IsOrdered}
-use Rattle.sb_turn.proofs.Keeps.{starts}
+use Rattle.sb_turn.proofs.Splitting.{starts}
 use Rattle.sb_turn.proofs.turn.Turn.with_looks.Goals as goal
 
 pub new-requires : goal.new-requires
