@@ -58,7 +58,8 @@ module _ {S E B : Type 0} {g : Ghosts S E B} where
   abbrev pub IsPassOf : Turn S E B → Pass S E B g → Type 0
   IsPassOf t p = p.seat.table_id ≡ t.table.shared.table_id
 
-  -- it holds no turn. What it has seen has of its own number just `mine`, and of each number in `joined` just what is kept there
+  -- it holds no turn. What it has seen has of its own number just `mine`,
+  -- and of each number in `joined` just what is kept there
   abbrev pub IsFree : Pass S E B g → Type 0
   IsFree p = (p.seat.me.0.stage ≡ Out) × (p.seat.me.1 ≡ []) × (p.seat.me.0.reserved ≡ None) × IsConsistent p.seat.me.0
 
@@ -104,7 +105,8 @@ module _ {S E B : Type 0} {g : Ghosts S E B} where
     pub lock : q.seat.table_id ≡ p.seat.table_id
     pub number : q.seat.me.0.number ≡ p.seat.me.0.number
     pub mine : q.seat.me.0.mine ≡ p.seat.me.0.mine
-    pub joined : q.seat.me.0.joined ≡ (other.seat.me.0.number, other.seat.me.0.mine) ∷ (other.seat.me.0.joined ++ p.seat.me.0.joined)
+    pub joined : q.seat.me.0.joined
+        ≡ (other.seat.me.0.number, other.seat.me.0.mine) ∷ (other.seat.me.0.joined ++ p.seat.me.0.joined)
     pub base : q.seat.me.0.base ≡ p.seat.me.0.base
     pub last_given : q.seat.me.0.last_given ≡ p.seat.me.0.last_given
     pub handed_out : q.seat.me.0.handed_out ≡ other.seat.me.0.handed_out ++ p.seat.me.0.handed_out

@@ -1,5 +1,6 @@
 -- The rule of the lock: a fact about its words, its slot and the views of all seats, which each step keeps.
--- Word 0 is the next ticket, word 1 the ticket that is served, word 2 the number of entries made, word 3 the next number of a pass. The slot holds the value.
+-- Word 0 is the next ticket, word 1 the ticket that is served, word 2 the number of entries made,
+-- word 3 the next number of a pass. The slot holds the value.
 use Rattle.std.specs.Prelude.{◌≡◌, ◌≢◌, ℕ, ◌+◌, ◌<◌, ◌≤◌, ◌⊎◌, List, [], ◌∷◌, length, Option, Some}
 use mathlib.Core.Option as maybe
 use mathlib.Core.Option.{some}
@@ -15,7 +16,8 @@ module _ {E B : Type 0} where
   TurnTaken views = (j : ℕ) × (d : View E B) × (t : ℕ) × (get_elem? views j ≡ some d) × HasTurn t d.stage
 
   -- what the rule says of one seat
-  pub record Fits (fixed : B) (start history : List (ℕ × E)) (serving numbers : ℕ) (parent : ℕ → ℕ) (d : View E B) : Type 0 where
+  pub record Fits (fixed : B) (start history : List (ℕ × E)) (serving numbers : ℕ) (parent : ℕ → ℕ)
+      (d : View E B) : Type 0 where
     -- Lists: what was seen is a past of the one history
     pub past_seen : IsPast d.seen history
     -- Own entries, joined entries: all stand in what was seen, and are just those kept; a reserved number has none
@@ -66,7 +68,8 @@ module _ {S E B : Type 0} (stands : S → List (ℕ × E) → Type 0) (base : S 
     pub narrow : tickets < 18446744073709551616
     -- New entries: word 2 is at most serving, or one more where the turn's entry is made
     pub one_a_turn : made ≤ serving + total entry_made_of views
-    pub each_seat : (j : ℕ) (d : View E B) → get_elem? views j ≡ some d → Fits fixed start history serving numbers parent d
+    pub each_seat : (j : ℕ) (d : View E B) → get_elem? views j ≡ some d
+        → Fits fixed start history serving numbers parent d
     -- The value: it is at home, or out with the one seat that has the turn
     pub value : AtHome fixed history homes ⊎ TurnTaken views
 

@@ -61,7 +61,8 @@ module _ {E : Type 0} where
   count k [] = 0
   count k (x ∷ xs) = one_if (x.0 == k) + count k xs
 
-  -- of each number accounted for, the history and what was seen of it have just the entries of the account. 0 is the number of no pass
+  -- of each number accounted for, the history and what was seen of it have just the entries of the account.
+  -- 0 is the number of no pass
   abbrev pub AccountsMatch : List (ℕ × E) → List (ℕ × E) → List (Account E) → Type 0
   AccountsMatch history seen [] = Unit {0}
   AccountsMatch history seen (x ∷ xs) =

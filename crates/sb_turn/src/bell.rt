@@ -15,6 +15,7 @@ pub struct Bell {
 }
 
 impl Bell {
+    /// A bell that was never rung.
     pub fn new(_alloc: Global) -> Result<Bell, AllocError>
         ensures { IsOk result }
     {

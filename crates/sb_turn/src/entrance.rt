@@ -1,4 +1,5 @@
-//! How a pass gets the turn: it draws a ticket, waits until the ticket is served, and takes the value.
+//! How a pass gets the turn: it draws a ticket, waits until the ticket is served, and takes the
+//! value.
 ghost use Rattle.std.specs.Prelude.{◌≡◌, ℕ, ◌<◌, ◌+◌, ◌^◌, MatchBool, Some};
 ghost use Rattle.sb_turn.specs.declared.view.Stage.TheVariants.{Out, Waits};
 ghost use Rattle.sb_turn.specs.Histories.{IsPast};
@@ -15,14 +16,15 @@ use std::sync::Wait;
 use std::thread;
 
 impl<S: Stands> Turn<S> {
-    /// Waits for the turn. Then the pass has seen the whole history. At the last ticket it waits for
-    /// ever.
+    /// Waits for the turn. Then the pass has seen the whole history. At the last ticket it waits
+    /// for ever.
     pub fn enter<R: Wait>(&self, rt: &R, pass: &mut Pass<S>) -> Held<S>
         requires { IsPassOf self.now pass.old × IsFree pass.old }
         ensures pass { IsSamePass pass.old pass.new × HoldsTurn pass.new }
         ensures seen { IsPast (seen pass.old) (seen pass.new) }
         ensures mine { mine pass.new ≡ mine pass.old }
-        ensures value { S.stands (held result) (seen pass.new) × (base_of pass.new ≡ Some (S.base (held result))) }
+        ensures value { S.stands (held result) (seen pass.new)
+            × (base_of pass.new ≡ Some (S.base (held result))) }
         ensures whole { IsWholePass pass.old → seen pass.new ≡ seen pass.old }
     {
         let ticket = self.take_ticket(rt, &mut pass.seat);
@@ -55,7 +57,9 @@ impl<S: Stands> Turn<S> {
         requires out { seat.old.me.0.stage ≡ Out }
         requires more { next + 1 < 2 ^ 64 }
         ensures own { (seat.new.table_id ≡ seat.old.table_id) × (seat.new.id ≡ seat.old.id) }
-        ensures drawn { MatchBool result (seat.new.me ≡ (at_stage seat.old.me.0 (Waits next), seat.old.me.1)) (seat.new.me ≡ seat.old.me) }
+        ensures drawn { MatchBool result
+            (seat.new.me ≡ (at_stage seat.old.me.0 (Waits next), seat.old.me.1))
+            (seat.new.me ≡ seat.old.me) }
     {
         self.table
             .shared
@@ -94,7 +98,9 @@ impl<S: Stands> Turn<S> {
         requires own { seat.old.table_id ≡ self.now.table.shared.table_id }
         requires waits { (seat.old.me.0.stage ≡ Waits ticket) × (0 < seat.old.me.0.number) }
         ensures own { (seat.new.table_id ≡ seat.old.table_id) × (seat.new.id ≡ seat.old.id) }
-        ensures entered { MatchBool result (Entered S.stands S.base ticket seat.old.me seat.new.me) (seat.new.me ≡ seat.old.me) }
+        ensures entered { MatchBool result
+            (Entered S.stands S.base ticket seat.old.me seat.new.me)
+            (seat.new.me ≡ seat.old.me) }
     {
         self.table.shared.load::<Look>(seat, SERVING) == ticket
     }

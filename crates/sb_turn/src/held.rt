@@ -13,8 +13,10 @@ pub struct Held<S: Stands> {
 }
 
 impl<S: Stands> Held<S> {
+    /// The value, to read and to change.
     pub fn value(&mut self) -> &mut S
-        ensures* writes_back { sem 𝓛 (Lends (the_row S.row S.Entry.row S.Base.row) S.row self.entry result (with_value self.old)) }
+        ensures* writes_back { sem 𝓛
+            (Lends (the_row S.row S.Entry.row S.Base.row) S.row self.entry result (with_value self.old)) }
         ensures value { result.now ≡ self.old.value }
     {
         &mut self.value

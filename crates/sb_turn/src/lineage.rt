@@ -30,7 +30,8 @@ impl<S: Stands> Turn<S> {
         requires pass { IsPassOf self.now pass.old × IsFree pass.old }
         requires other { IsPassOf self.now other × IsFree other }
         ensures pass { IsFree pass.new × HasJoined pass.old other pass.new }
-        ensures seen { IsPast (seen pass.old) (seen pass.new) × IsPast (seen other) (seen pass.new) }
+        ensures seen { IsPast (seen pass.old) (seen pass.new)
+            × IsPast (seen other) (seen pass.new) }
         ensures longer { (seen pass.new ≡ seen pass.old) ⊎ (seen pass.new ≡ seen other) }
     {
         let Pass { seat, number: _ } = other;
@@ -43,7 +44,9 @@ impl<S: Stands> Turn<S> {
         requires own { seat.old.table_id ≡ self.now.table.shared.table_id }
         requires none { (seat.old.me.0.reserved ≡ None) × (0 < seat.old.me.0.number) }
         ensures own { (seat.new.table_id ≡ seat.old.table_id) × (seat.new.id ≡ seat.old.id) }
-        ensures taken { (seat.new.me ≡ (with_reserved seat.old.me.0 result, seat.old.me.1)) × (seat.old.me.0.last_given < result) × IsConsistent (with_reserved seat.old.me.0 result) }
+        ensures taken { (seat.new.me ≡ (with_reserved seat.old.me.0 result, seat.old.me.1))
+            × (seat.old.me.0.last_given < result)
+            × IsConsistent (with_reserved seat.old.me.0 result) }
     {
         for _ in rt.forever() {
             let next = self.table.shared.peek(NEXT_NUMBER);
@@ -60,7 +63,11 @@ impl<S: Stands> Turn<S> {
         requires none { (seat.old.me.0.reserved ≡ None) × (0 < seat.old.me.0.number) }
         requires more { next + 1 < 2 ^ 64 }
         ensures own { (seat.new.table_id ≡ seat.old.table_id) × (seat.new.id ≡ seat.old.id) }
-        ensures taken { MatchBool result ((seat.new.me ≡ (with_reserved seat.old.me.0 next, seat.old.me.1)) × (seat.old.me.0.last_given < next) × IsConsistent (with_reserved seat.old.me.0 next)) (seat.new.me ≡ seat.old.me) }
+        ensures taken { MatchBool result
+            ((seat.new.me ≡ (with_reserved seat.old.me.0 next, seat.old.me.1))
+            × (seat.old.me.0.last_given < next)
+            × IsConsistent (with_reserved seat.old.me.0 next))
+            (seat.new.me ≡ seat.old.me) }
     {
         self.table
             .shared
@@ -71,8 +78,10 @@ impl<S: Stands> Turn<S> {
     // What the rule says of the seat's view.
     pub(crate) fn learn(&self, seat: &mut Place<S>)
         requires own { seat.old.table_id ≡ self.now.table.shared.table_id }
-        ensures own { (seat.new.table_id ≡ seat.old.table_id) × (seat.new.id ≡ seat.old.id) × (seat.new.me ≡ seat.old.me) }
-        ensures consistent { IsConsistent seat.new.me.0 × ArePasts seat.new.me.0.merged seat.new.me.0.seen }
+        ensures own { (seat.new.table_id ≡ seat.old.table_id) × (seat.new.id ≡ seat.old.id)
+            × (seat.new.me ≡ seat.old.me) }
+        ensures consistent { IsConsistent seat.new.me.0
+            × ArePasts seat.new.me.0.merged seat.new.me.0.seen }
     {
         self.table.shared.load::<Learn>(seat, NEXT_TICKET);
     }

@@ -19,22 +19,26 @@ impl<S: Stands + Drop> Turn<S> {
         requires stands { S.stands value (S.opening value) }
         requires opening { (k : ℕ) → 0 < k → entries_of_pass k (S.opening value) ≡ [] }
         ensures pass { IfOk result (λ r. IsPassOf r.0 r.1 × IsFree r.1) }
-        ensures number { IfOk result (λ r. (number r.1 ≡ 1) × (last_given r.1 ≡ 1) × (handed_out r.1 ≡ [])) }
-        ensures history { IfOk result (λ r. (seen r.1 ≡ S.opening value) × (opening r.1 ≡ S.opening value)) }
+        ensures number { IfOk result (λ r. (number r.1 ≡ 1) × (last_given r.1 ≡ 1)
+            × (handed_out r.1 ≡ [])) }
+        ensures history { IfOk result (λ r. (seen r.1 ≡ S.opening value)
+            × (opening r.1 ≡ S.opening value)) }
         ensures nothing { IfOk result (λ r. (mine r.1 ≡ []) × (joined r.1 ≡ [])) }
         ensures base { IfOk result (λ r. base_of r.1 ≡ Some (S.base value)) }
     {
         Self::with_looks(alloc, value, LOOKS)
     }
 
-    /// The same, with a number of looks that a waiter takes before it sleeps. It yields the processor
-    /// between them.
+    /// The same, with a number of looks that a waiter takes before it sleeps. It yields the
+    /// processor between them.
     pub fn with_looks(alloc: Global, value: S, looks: u32) -> Result<(Turn<S>, Pass<S>), AllocError>
         requires stands { S.stands value (S.opening value) }
         requires opening { (k : ℕ) → 0 < k → entries_of_pass k (S.opening value) ≡ [] }
         ensures pass { IfOk result (λ r. IsPassOf r.0 r.1 × IsFree r.1) }
-        ensures number { IfOk result (λ r. (number r.1 ≡ 1) × (last_given r.1 ≡ 1) × (handed_out r.1 ≡ [])) }
-        ensures history { IfOk result (λ r. (seen r.1 ≡ S.opening value) × (opening r.1 ≡ S.opening value)) }
+        ensures number { IfOk result (λ r. (number r.1 ≡ 1) × (last_given r.1 ≡ 1)
+            × (handed_out r.1 ≡ [])) }
+        ensures history { IfOk result (λ r. (seen r.1 ≡ S.opening value)
+            × (opening r.1 ≡ S.opening value)) }
         ensures nothing { IfOk result (λ r. (mine r.1 ≡ []) × (joined r.1 ≡ [])) }
         ensures base { IfOk result (λ r. base_of r.1 ≡ Some (S.base value)) }
         ensures looks { IfOk result (λ r. looks_of r.0 ≡ looks) }

@@ -4,7 +4,8 @@ ghost use Rattle.std.specs.Prelude.{◌≡◌, ◌<◌};
 use crate::stands::Stands;
 use crate::turn::Place;
 
-/// What a thread knows of one lock. One thread has it at a time. Beside its number it takes no bytes.
+/// What a thread knows of one lock. One thread has it at a time. Beside its number it takes no
+/// bytes.
 #[derive(Drop)]
 pub struct Pass<S: Stands> {
     // Each call of the lock that is lent the pass steps with it.

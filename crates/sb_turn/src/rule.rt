@@ -5,8 +5,8 @@ use atomic_table::TableRule;
 use std::marker::PhantomData;
 use std::snapshot::Snapshot;
 
-/// The key is the value as it was when the turn was made, of which the rule cites the opening and the
-/// base.
+/// The key is the value as it was when the turn was made, of which the rule cites the opening and
+/// the base.
 pub struct Order<S> {
     of: PhantomData<S>,
 }

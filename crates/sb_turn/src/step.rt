@@ -1,5 +1,5 @@
-//! The kinds of step that a seat makes. Beside them there is the exchange of the slot, which changes
-//! no view.
+//! The kinds of step that a seat makes. Beside them there is the exchange of the slot, which
+//! changes no view.
 ghost use Rattle.sb_turn.specs.Views.{without_reserved, newcomer, union_of, spent_view};
 ghost use Rattle.sb_turn.specs.Steps.{draws, looks, adds, passes_on, numbers, learns};
 

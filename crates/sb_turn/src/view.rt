@@ -1,4 +1,5 @@
-//! What a seat at the table of the lock knows. No value of these types is made: they exist in proofs.
+//! What a seat at the table of the lock knows. No value of these types is made: they exist in
+//! proofs.
 use std::collections::LinkedList;
 
 /// Where a seat stands.
@@ -20,9 +21,10 @@ pub enum Stage {
     Made(u64),
 }
 
-/// Only the steps of a seat change its view, and they do so in one atomic step with the table's words.
-/// Outside a turn a step changes `stage` (draw), `reserved`, `last_given` and `handed_out` (number,
-/// split), or `seen`, `joined`, `handed_out` and `merged` (join). The rest changes only in a turn.
+/// Only the steps of a seat change its view, and they do so in one atomic step with the table's
+/// words. Outside a turn a step changes `stage` (draw), `reserved`, `last_given` and `handed_out`
+/// (number, split), or `seen`, `joined`, `handed_out` and `merged` (join). The rest changes only
+/// in a turn.
 pub struct View<E, B> {
     /// The number of its pass, fixed when the pass is split off. 0 once it was joined to another.
     pub number: u64,
@@ -36,11 +38,11 @@ pub struct View<E, B> {
     pub base: Option<B>,
     /// The history for which the value stood when the turn was made. It never changes.
     pub opening: LinkedList<(u64, E)>,
-    /// The numbers that it gave, and those that the passes gave which it took in. A split adds to it,
-    /// and a join.
+    /// The numbers that it gave, and those that the passes gave which it took in. A split adds to
+    /// it, and a join.
     pub handed_out: LinkedList<u64>,
-    /// The history as far as it has seen it, newest first. The whole, from the look that gives it the
-    /// turn until it passes the turn on; a join takes the longer of two.
+    /// The history as far as it has seen it, newest first. The whole, from the look that gives it
+    /// the turn until it passes the turn on; a join takes the longer of two.
     pub seen: LinkedList<(u64, E)>,
     /// Its own entries, newest first. Only its own entry in its own turn adds to it.
     pub mine: LinkedList<(u64, E)>,

@@ -15,7 +15,8 @@ pub fn add<R: Wait>(rt: &R, turn: &Turn<Counter>, pass: &mut Pass<Counter>, amou
     ensures pass { IsSamePass pass.old pass.new × IsFree pass.new }
     ensures mine { mine pass.new ≡ (number pass.old, amount) ∷ mine pass.old }
     ensures seen { IsPast (seen pass.old) (seen pass.new) }
-    ensures whole { IsWholePass pass.old → seen pass.new ≡ (number pass.old, amount) ∷ seen pass.old }
+    ensures whole { IsWholePass pass.old
+        → seen pass.new ≡ (number pass.old, amount) ∷ seen pass.old }
 {
     let mut held = turn.enter(rt, pass);
     let counter = held.value();
@@ -32,7 +33,8 @@ fn leave_with<M: Event<u64>>(
 )
     requires pass { IsPassOf turn.now pass.old × HoldsTurn pass.old }
     requires event { M.made ≡ (number pass.old, amount) ∷ [] }
-    requires count { held.value.count ≡ total_added ((number pass.old, amount) ∷ seen pass.old) % 2 ^ 64 }
+    requires count { held.value.count
+        ≡ total_added ((number pass.old, amount) ∷ seen pass.old) % 2 ^ 64 }
     requires base { base_of pass.old ≡ Some tt }
     ensures pass { IsSamePass pass.old pass.new × IsFree pass.new }
     ensures seen { seen pass.new ≡ (number pass.old, amount) ∷ seen pass.old }

@@ -43,7 +43,8 @@ pub fn crew_of<R: Wait>(
 /// Each worker takes its turns, up to 24 of them side by side.
 pub fn all_work<R: Threads + Wait + Sync>(rt: &R, turn: &Turn<Counter>, crew: &mut [Worker])
     requires { All (IsReady turn.now) crew.old }
-    ensures { (i : ℕ) (d : Worker) → i < length crew.old → HasWorked turn.now (slice_index_or crew.old i d) (slice_index_or crew.new i d) }
+    ensures { (i : ℕ) (d : Worker) → i < length crew.old
+        → HasWorked turn.now (slice_index_or crew.old i d) (slice_index_or crew.new i d) }
 {
     thread::for_each_mut(rt, crew, MOST_THREADS, &|_, worker| work(rt, turn, worker));
 }

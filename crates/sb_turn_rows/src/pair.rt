@@ -10,7 +10,8 @@ use std::alloc::{AllocError, Global};
 use std::sync::Wait;
 use std::thread::{Threads, join};
 
-/// Pass 1 adds 3 and splits off another. Each adds 4, in a thread of its own. The passes are joined.
+/// Pass 1 adds 3 and splits off another. Each adds 4, in a thread of its own. The passes are
+/// joined.
 pub fn counted_by_two<R: Threads + Wait + Sync>(
     rt: &R,
     alloc: Global,
@@ -29,11 +30,14 @@ pub fn counted_by_two<R: Threads + Wait + Sync>(
         rt,
         || -> Pass<Counter>
             requires { IsPassOf lock.now one × IsFree one }
-            ensures { IsFree result × IsSamePass one result × (mine result ≡ (number one, 4) ∷ mine one) × IsPast (seen one) (seen result) }
+            ensures { IsFree result × IsSamePass one result
+                × (mine result ≡ (number one, 4) ∷ mine one)
+                × IsPast (seen one) (seen result) }
         { added_four(rt, lock, one) },
         || -> Pass<Counter>
             requires { IsPassOf lock.now two × IsFree two }
-            ensures { IsFree result × IsSamePass two result × (mine result ≡ (number two, 4) ∷ mine two) }
+            ensures { IsFree result × IsSamePass two result
+                × (mine result ≡ (number two, 4) ∷ mine two) }
         { added_four(rt, lock, two) },
     );
     turn.join(&mut one, two);

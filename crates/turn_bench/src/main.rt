@@ -1,7 +1,7 @@
 //! Counts under the lock with several threads, for a measurement of how they wait.
 //!
-//! The three words are how often a waiter looks before it sleeps, the number of threads, up to 24, and
-//! the turns that each takes.
+//! The three words are how often a waiter looks before it sleeps, the number of threads, up to 24,
+//! and the turns that each takes.
 #![tactic(auto)]
 
 use anyhow::Context;
