@@ -1,7 +1,7 @@
 //! Many passes, each in a thread of its own.
 ghost use Rattle.std.specs.Prelude.{◌≡◌, ℕ, ◌+◌, ◌<◌, All, IfOk, length, slice_index_or};
 ghost use Rattle.sb_turn.specs.Passes.{mine, number, IsPassOf, IsFree, IsSamePass};
-ghost use Rattle.sb_turn_rows.specs.Workers.{IsReady, HasWorked};
+ghost use Rattle.sb_turn_rows.specs.Workers.{IsReady, HasTask, HasWorked};
 
 use crate::adding::add;
 use crate::counter::Counter;
@@ -15,7 +15,7 @@ use std::thread::Threads;
 // How many workers take their turns side by side.
 const MOST_THREADS: usize = 24;
 
-/// So many workers, each with a pass split off this one.
+/// So many workers, each with a pass split off this one, that are to add 1 in each of their turns.
 pub fn crew_of<R: Wait>(
     rt: &R,
     alloc: Global,
@@ -27,6 +27,7 @@ pub fn crew_of<R: Wait>(
     requires { IsPassOf turn.now pass.old × IsFree pass.old }
     ensures pass { IsPassOf turn.now pass.new × IsFree pass.new }
     ensures crew { IfOk result (λ v. All (IsReady turn.now) v.items × (length v.items ≡ count)) }
+    ensures task { IfOk result (λ v. All (HasTask turns) v.items) }
 {
     let mut crew = Vec::new(alloc);
     for _ in 0..count {
