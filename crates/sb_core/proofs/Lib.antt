@@ -1,6 +1,7 @@
 pub mod Histories
 pub mod Fields
-pub mod Events
 pub mod Stamps
-pub mod Writes
-pub mod Overlays
+pub mod Events
+pub mod WriteEvents
+pub mod PutEnds
+pub mod FlushEvents

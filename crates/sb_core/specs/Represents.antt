@@ -1,5 +1,5 @@
 -- Which histories a core represents: those that give each of its fields. Histories are newest first.
-use Rattle.std.specs.Prelude.{ℕ, ◌≡◌, ◌<◌, ◌≤◌, Bool, true, false, nat_eq, nat_lt, if◌then◌else◌, List, [], ◌∷◌, length, filter, nat_le, Option, Some, None, is_none, IfSome, min}
+use Rattle.std.specs.Prelude.{ℕ, ◌≡◌, ◌<◌, ◌≤◌, Bool, true, false, nat_eq, nat_lt, if◌then◌else◌, List, [], ◌∷◌, length, filter, nat_le, Option, Some, None, is_none, IfSome, min, max, IsSome}
 use Rattle.sb_base.specs.declared.geometry.Geometry.{Geometry}
 use Rattle.sb_base.specs.declared.settings.Settings.{Settings}
 use Rattle.sb_base.specs.declared.line.Expect.{Expect}
@@ -47,13 +47,15 @@ pub record OpenGet : Type 0 where
 
 -- the GET of a block that is open in the core
 abbrev pub get_in : State → ℕ → Option OpenGet
-get_in (Reading held pass begun) block = only_at held (record { pass = pass; begun = begun; expect = None; verify = None }) block
+get_in (Reading held pass begun) block =
+    only_at held (record { pass = pass; begun = begun; expect = None; verify = None }) block
 get_in state block = None
 
 -- the GET that is open in a history
 abbrev pub open_get : Option Fetch → Option OpenGet
 open_get None = None
-open_get (Some fetch) = Some (record { pass = fetch.pass; begun = fetch.reading; expect = fetch.expect; verify = fetch.verify })
+open_get (Some fetch) =
+    Some (record { pass = fetch.pass; begun = fetch.reading; expect = fetch.expect; verify = fetch.verify })
 
 -- the pass of the PUT of a block that is open in the core
 abbrev pub put_in : State → ℕ → Option ℕ
@@ -92,7 +94,8 @@ is_above (Some stamp) mark = nat_lt mark stamp
 pub record IsStampOf (past : List Entry) (writes : List ℕ) (stamp : Option ℕ) : Type 0 where
   pub some : is_nil writes ≡ is_none stamp
   pub given : IfSome stamp (λ epoch. epoch ≤ min (flushes_begun past) last_number)
-  pub marks : (mark place : ℕ) → flush_place past mark ≡ Some place → is_unstamped_by mark place writes ≡ is_above stamp mark
+  pub marks :
+      (mark place : ℕ) → flush_place past mark ≡ Some place → is_unstamped_by mark place writes ≡ is_above stamp mark
 
 -- the block of the entry is on the disk
 abbrev pub IsOnDisk : ℕ → State → Type 0
@@ -104,7 +107,8 @@ IsOnDisk blocks (Writing held pass stamp) = held < blocks
 IsOnDisk blocks (Writing2 held pass stamp later) = held < blocks
 
 -- fields are those that a history gives, and the history follows the access rules and the cache policy
-pub record RepresentsBy (geometry : Geometry) (settings : Settings) (reading epoch : ℕ) (state : State) (body : List ℕ) (past : List Entry) : Type 0 where
+pub record RepresentsBy (geometry : Geometry) (settings : Settings) (reading epoch : ℕ) (state : State) (body : List ℕ)
+    (past : List Entry) : Type 0 where
   pub base : HasOneBlock settings
   pub sized : length body ≡ geometry.block_size
   pub on_disk : IsOnDisk geometry.blocks state
@@ -113,8 +117,11 @@ pub record RepresentsBy (geometry : Geometry) (settings : Settings) (reading epo
   pub contents : (block : ℕ) → cached_content geometry.block_size nothing_found past block ≡ content_in state body block
   pub gets : (block : ℕ) → open_get (fetch_of past block) ≡ get_in state block
   pub puts : (block : ℕ) → open_put (puts_of past block) ≡ put_in state block
-  pub stamps : (block : ℕ) → IsStampOf past (unacked_writes geometry.block_size nothing_found past block) (stamp_in state block)
-  pub later : (block : ℕ) → IsStampOf past (writes_since (puts_of past block) (unacked_writes geometry.block_size nothing_found past block)) (later_in state block)
+  pub stamps :
+      (block : ℕ) → IsStampOf past (unacked_writes geometry.block_size nothing_found past block) (stamp_in state block)
+  pub later : (block : ℕ) → IsStampOf past
+      (writes_since (puts_of past block) (unacked_writes geometry.block_size nothing_found past block))
+      (later_in state block)
   pub rules : FollowsAccessRules geometry settings nothing_found past
   pub policy : FollowsCachePolicy geometry settings nothing_found past
 
@@ -122,10 +129,11 @@ pub record RepresentsBy (geometry : Geometry) (settings : Settings) (reading epo
 abbrev pub Represents : Core → List Entry → Type 0
 Represents core past = RepresentsBy core.geometry core.settings core.reading core.epoch core.state core.body.items past
 
--- the disk's geometry, and its settings
+-- the disk's geometry
 abbrev pub geometry_of : Core → Geometry
 geometry_of core = core.geometry
 
+-- the disk's settings
 abbrev pub settings_of : Core → Settings
 settings_of core = core.settings
 
@@ -133,6 +141,19 @@ settings_of core = core.settings
 abbrev pub reading_of : Core → ℕ
 reading_of core = core.reading
 
+-- the reading of an entry that is added now: readings never fall
+abbrev pub reading_at : ℕ → Core → ℕ
+reading_at now core = max now core.reading
+
 -- the mark of the next flush: how many flushes have begun
 abbrev pub epoch_of : Core → ℕ
 epoch_of core = core.epoch
+
+-- an event adds this entry to every history that the core represented
+abbrev pub Adds : Core → Core → Entry → Type 0
+Adds old new entry = (past : List Entry) → Represents old past → Represents new (entry ∷ past)
+
+-- an event adds this entry to every history that the core represented and in which the flush of this mark has begun
+abbrev pub AddsAfterFlush : ℕ → Core → Core → Entry → Type 0
+AddsAfterFlush mark old new entry =
+    (past : List Entry) → IsSome (flush_place past mark) → Represents old past → Represents new (entry ∷ past)

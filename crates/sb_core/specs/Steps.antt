@@ -35,11 +35,14 @@ put_job block content = record { block = block; zeros = is_zeros content }
 -- else a clean block leaves, a dirty one is put, and one that is being read or put is waited for
 abbrev pub read_answer : State → List ℕ → ℕ → ℕ → ReadStep
 read_answer Missing body reading block = read.Get (get_job block reading)
-read_answer (Reading held pass begun) body reading block = if nat_eq held block then read.Wait (Busy block) else read.Wait NoRoom
+read_answer (Reading held pass begun) body reading block =
+    if nat_eq held block then read.Wait (Busy block) else read.Wait NoRoom
 read_answer (Clean held) body reading block = if nat_eq held block then read.Done else read.Dropped held
-read_answer (Dirty held stamp) body reading block = if nat_eq held block then read.Done else read.Put (put_job held body)
+read_answer (Dirty held stamp) body reading block =
+    if nat_eq held block then read.Done else read.Put (put_job held body)
 read_answer (Writing held pass stamp) body reading block = if nat_eq held block then read.Done else read.Wait NoRoom
-read_answer (Writing2 held pass stamp later) body reading block = if nat_eq held block then read.Done else read.Wait NoRoom
+read_answer (Writing2 held pass stamp later) body reading block =
+    if nat_eq held block then read.Done else read.Wait NoRoom
 
 -- a core answers a read of a block at a reading
 abbrev pub AnswersRead : Core → ℕ → ℕ → ReadStep → Type 0
@@ -61,20 +64,28 @@ read_kind part out room (read.Put job) = kind.PutBegin job.block room
 
 -- the entry that a read adds
 abbrev pub read_entry : ℕ → ℕ → Part → List ℕ → List ℕ → ReadStep → Entry
-read_entry pass reading part out room step = record { pass = pass; reading = reading; kind = read_kind part out room step }
+read_entry pass reading part out room step =
+    record { pass = pass; reading = reading; kind = read_kind part out room step }
 
 -- how a write of a part is answered: as a read, but where there is room a whole block needs no GET
 abbrev pub write_answer : State → List ℕ → ℕ → ℕ → Part → WriteStep
-write_answer Missing body block_size reading part = if nat_eq part.length block_size then write.Done else write.Get (get_job part.block reading)
-write_answer (Reading held pass begun) body block_size reading part = if nat_eq held part.block then write.Wait (Busy part.block) else write.Wait NoRoom
-write_answer (Clean held) body block_size reading part = if nat_eq held part.block then write.Done else write.Dropped held
-write_answer (Dirty held stamp) body block_size reading part = if nat_eq held part.block then write.Done else write.Put (put_job held body)
-write_answer (Writing held pass stamp) body block_size reading part = if nat_eq held part.block then write.Done else write.Wait NoRoom
-write_answer (Writing2 held pass stamp later) body block_size reading part = if nat_eq held part.block then write.Done else write.Wait NoRoom
+write_answer Missing body block_size reading part =
+    if nat_eq part.length block_size then write.Done else write.Get (get_job part.block reading)
+write_answer (Reading held pass begun) body block_size reading part =
+    if nat_eq held part.block then write.Wait (Busy part.block) else write.Wait NoRoom
+write_answer (Clean held) body block_size reading part =
+    if nat_eq held part.block then write.Done else write.Dropped held
+write_answer (Dirty held stamp) body block_size reading part =
+    if nat_eq held part.block then write.Done else write.Put (put_job held body)
+write_answer (Writing held pass stamp) body block_size reading part =
+    if nat_eq held part.block then write.Done else write.Wait NoRoom
+write_answer (Writing2 held pass stamp later) body block_size reading part =
+    if nat_eq held part.block then write.Done else write.Wait NoRoom
 
 -- a core answers a write of a part at a reading
 abbrev pub AnswersWrite : Core → ℕ → Part → WriteStep → Type 0
-AnswersWrite core reading part step = step ≡ write_answer core.state core.body.items core.geometry.block_size reading part
+AnswersWrite core reading part step =
+    step ≡ write_answer core.state core.body.items core.geometry.block_size reading part
 
 -- the bytes that an answer comes with: those of the block that is put
 abbrev pub CopiesWrite : Core → List ℕ → WriteStep → Type 0
@@ -91,7 +102,8 @@ write_kind part bytes out (write.Put job) = kind.PutBegin job.block out
 
 -- the entry that a write adds
 abbrev pub write_entry : ℕ → ℕ → Part → List ℕ → List ℕ → WriteStep → Entry
-write_entry pass reading part bytes out step = record { pass = pass; reading = reading; kind = write_kind part bytes out step }
+write_entry pass reading part bytes out step =
+    record { pass = pass; reading = reading; kind = write_kind part bytes out step }
 
 -- the entry that the begin of a flush adds
 abbrev pub flush_begin_entry : ℕ → ℕ → ℕ → Entry
@@ -101,7 +113,8 @@ flush_begin_entry pass reading mark = record { pass = pass; reading = reading; k
 abbrev pub flush_answer : State → List ℕ → ℕ → FlushStep
 flush_answer (Dirty held stamp) body mark = if nat_le stamp mark then flush.Put (put_job held body) else flush.Done
 flush_answer (Writing held pass stamp) body mark = if nat_le stamp mark then flush.Wait (Busy held) else flush.Done
-flush_answer (Writing2 held pass stamp later) body mark = if nat_le stamp mark then flush.Wait (Busy held) else flush.Done
+flush_answer (Writing2 held pass stamp later) body mark =
+    if nat_le stamp mark then flush.Wait (Busy held) else flush.Done
 flush_answer state body mark = flush.Done
 
 -- a core answers a step of the flush of a mark
@@ -125,7 +138,9 @@ flush_step_entry pass reading mark out step = record { pass = pass; reading = re
 
 -- the job's GET is open in the core, and was begun by this pass
 abbrev pub HasGet : Core → ℕ → GetJob → Type 0
-HasGet core pass job = get_in core.state job.block ≡ Some (record { pass = pass; begun = job.begun; expect = job.expect; verify = job.verify })
+HasGet core pass job =
+    get_in core.state job.block
+    ≡ Some (record { pass = pass; begun = job.begun; expect = job.expect; verify = job.verify })
 
 -- bytes of an answer are one block long, and only where the job asks about a digest it may be that of the object
 abbrev pub ShownFits : ℕ → Option (List ℕ) → Shown → Type 0

@@ -1,10 +1,13 @@
 //! The disk as a machine without IO: one call is one event, and adds one entry to the history.
 #![tactic(auto)]
 
+mod flushes;
 mod job;
 mod machine;
+mod reads;
 mod state;
 mod step;
+mod writes;
 
 pub use job::{GetJob, Mark, PutJob};
 pub use machine::Core;

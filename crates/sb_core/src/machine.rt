@@ -18,15 +18,15 @@ use std::alloc::{AllocError, Global};
 /// The state of a disk. It does no IO: each call but the readers is one event, and tells the caller what to do outside.
 #[derive(Drop)]
 pub struct Core {
-    geometry: Geometry,
-    settings: Settings,
+    pub(crate) geometry: Geometry,
+    pub(crate) settings: Settings,
     /// The greatest reading so far, in milliseconds.
-    reading: u64,
+    pub(crate) reading: u64,
     /// How many flushes have begun.
-    epoch: u64,
-    state: State,
+    pub(crate) epoch: u64,
+    pub(crate) state: State,
     /// The content of the block that is held, in a buffer of one block.
-    body: Vec<u8>,
+    pub(crate) body: Vec<u8>,
     ghost sized: { vec_len body ≡ geometry.block_size },
 }
 
@@ -81,219 +81,8 @@ impl Core {
         self.settings
     }
 
-    /// Reads a part of a block into `out`, which is as long as the part. `room` is one block long, and has the body where
-    /// the answer is a PUT. `now` is a reading in milliseconds.
-    pub fn read(
-        &mut self,
-        now: u64,
-        pass: u64,
-        part: Part,
-        out: &mut [u8],
-        room: &mut [u8],
-    ) -> ReadStep
-        requires now { now ≤ 2 ^ 62 }
-        requires part { IsPart (geometry_of self.old) part }
-        requires out { length out.old ≡ part.length }
-        requires room { length room.old ≡ (geometry_of self.old).block_size }
-        ensures represents { (past : List Entry) → Represents self.old past → Represents self.new (read_entry pass (max now (reading_of self.old)) part out.new room.new result ∷ past) }
-        ensures answer { AnswersRead self.old (max now (reading_of self.old)) part.block result }
-        ensures copies { CopiesRead self.old part out.new room.new result }
-        ensures leads { ReadLeads self.old self.new pass part.block result }
-        ensures base { SameBase self.old self.new }
-        ensures reading { reading_of self.new ≡ max now (reading_of self.old) }
-    {
-        self.reading = now.max(self.reading);
-        if self.holds(part.block) {
-            self.copy(part, out);
-            return ReadStep::Done;
-        }
-        match self.state {
-            State::Missing => ReadStep::Get(self.begin_get(pass, part.block)),
-            State::Reading { block, .. } => {
-                if block == part.block {
-                    ReadStep::Wait(Why::Busy(block))
-                } else {
-                    ReadStep::Wait(Why::NoRoom)
-                }
-            }
-            State::Clean { block } => {
-                self.state = State::Missing;
-                ReadStep::Dropped(block)
-            }
-            State::Dirty { block, stamp } => ReadStep::Put(self.begin_put(
-                pass, block, stamp, room,
-            )),
-            State::Writing { .. } | State::Writing2 { .. } => ReadStep::Wait(Why::NoRoom),
-        }
-    }
-
-    /// Writes a part of a block, whose `bytes` are as long as the part. `out` is one block long, and has the body where the
-    /// answer is a PUT.
-    pub fn write(
-        &mut self,
-        now: u64,
-        pass: u64,
-        part: Part,
-        bytes: &[u8],
-        out: &mut [u8],
-    ) -> WriteStep
-        requires now { now ≤ 2 ^ 62 }
-        requires part { IsPart (geometry_of self.old) part }
-        requires bytes { length bytes.now ≡ part.length }
-        requires out { length out.old ≡ (geometry_of self.old).block_size }
-        ensures represents { (past : List Entry) → Represents self.old past → Represents self.new (write_entry pass (max now (reading_of self.old)) part bytes.now out.new result ∷ past) }
-        ensures answer { AnswersWrite self.old (max now (reading_of self.old)) part result }
-        ensures copies { CopiesWrite self.old out.new result }
-        ensures leads { WriteLeads self.old self.new pass part.block result }
-        ensures base { SameBase self.old self.new }
-        ensures reading { reading_of self.new ≡ max now (reading_of self.old) }
-    {
-        self.reading = now.max(self.reading);
-        if self.holds(part.block) {
-            self.overwrite(part, bytes);
-            self.state = self.state.written(self.epoch);
-            return WriteStep::Done;
-        }
-        match self.state {
-            State::Missing => {
-                if part.length == self.geometry.block_size {
-                    self.body.copy_from_slice(bytes);
-                    self.state = State::Dirty {
-                        block: part.block,
-                        stamp: self.epoch,
-                    };
-                    WriteStep::Done
-                } else {
-                    WriteStep::Get(self.begin_get(pass, part.block))
-                }
-            }
-            State::Reading { block, .. } => {
-                if block == part.block {
-                    WriteStep::Wait(Why::Busy(block))
-                } else {
-                    WriteStep::Wait(Why::NoRoom)
-                }
-            }
-            State::Clean { block } => {
-                self.state = State::Missing;
-                WriteStep::Dropped(block)
-            }
-            State::Dirty { block, stamp } => WriteStep::Put(self.begin_put(
-                pass, block, stamp, out,
-            )),
-            State::Writing { .. } | State::Writing2 { .. } => WriteStep::Wait(Why::NoRoom),
-        }
-    }
-
-    /// Begins a flush. Its mark covers all writes so far; the last mark, 2^64 - 1, covers later ones too.
-    pub fn flush_begin(&mut self, now: u64, pass: u64) -> Mark
-        requires now { now ≤ 2 ^ 62 }
-        ensures represents { (past : List Entry) → Represents self.old past → Represents self.new (flush_begin_entry pass (max now (reading_of self.old)) result ∷ past) }
-        ensures mark { result ≡ epoch_of self.old }
-        ensures idle { IsIdle self.old → IsIdle self.new }
-        ensures base { SameBase self.old self.new }
-        ensures reading { reading_of self.new ≡ max now (reading_of self.old) }
-    {
-        self.reading = now.max(self.reading);
-        let mark = self.epoch;
-        self.epoch = mark.saturating_add(1);
-        mark
-    }
-
-    /// Makes a step of a flush that has begun with this mark. `out` is one block long, and has the body where the answer is
-    /// a PUT.
-    pub fn flush_step(&mut self, now: u64, pass: u64, mark: Mark, out: &mut [u8]) -> FlushStep
-        requires now { now ≤ 2 ^ 62 }
-        requires out { length out.old ≡ (geometry_of self.old).block_size }
-        ensures represents { (past : List Entry) → IsSome (flush_place past mark) → Represents self.old past → Represents self.new (flush_step_entry pass (max now (reading_of self.old)) mark out.new result ∷ past) }
-        ensures answer { AnswersFlush self.old mark result }
-        ensures copies { CopiesFlush self.old out.new result }
-        ensures leads { FlushLeads self.old self.new pass result }
-        ensures base { SameBase self.old self.new }
-        ensures reading { reading_of self.new ≡ max now (reading_of self.old) }
-    {
-        self.reading = now.max(self.reading);
-        match self.state {
-            State::Missing | State::Reading { .. } | State::Clean { .. } => FlushStep::Done,
-            State::Dirty { block, stamp } => {
-                if stamp <= mark {
-                    FlushStep::Put(self.begin_put(pass, block, stamp, out))
-                } else {
-                    FlushStep::Done
-                }
-            }
-            State::Writing { block, stamp, .. } => {
-                if stamp <= mark {
-                    FlushStep::Wait(Why::Busy(block))
-                } else {
-                    FlushStep::Done
-                }
-            }
-            State::Writing2 { block, stamp, .. } => {
-                if stamp <= mark {
-                    FlushStep::Wait(Why::Busy(block))
-                } else {
-                    FlushStep::Done
-                }
-            }
-        }
-    }
-
-    /// Gives the answer to a GET. Bytes are one block long.
-    pub fn get_end(&mut self, now: u64, pass: u64, job: GetJob, answer: Answer<'_>) -> GetDone
-        requires now { now ≤ 2 ^ 62 }
-        requires job { HasGet self.old pass job }
-        requires answer { ShownFits (geometry_of self.old).block_size job.verify (shown_of answer) }
-        ensures represents { (past : List Entry) → Represents self.old past → Represents self.new (get_end_entry pass (max now (reading_of self.old)) job (shown_of answer.entry) result ∷ past) }
-        ensures answer { result ≡ get_end_answer (shown_of answer.entry) }
-        ensures idle { IsIdle self.new }
-        ensures closer { result ≡ GetDone.Taken → IsCloser self.old self.new }
-        ensures base { SameBase self.old self.new }
-        ensures reading { reading_of self.new ≡ max now (reading_of self.old) }
-    {
-        let GetJob {
-            block,
-            expect: _,
-            verify: _,
-            begun: _,
-        } = job;
-        self.reading = now.max(self.reading);
-        match answer {
-            Answer::Absent => {
-                self.body.fill(0);
-                self.state = State::Clean { block };
-                GetDone::Taken
-            }
-            Answer::Bytes(bytes) => {
-                self.body.copy_from_slice(bytes);
-                self.state = State::Clean { block };
-                GetDone::Taken
-            }
-            Answer::Same => unreachable!(),
-            Answer::Failed => {
-                self.state = State::Missing;
-                GetDone::Failed
-            }
-        }
-    }
-
-    /// Ends a PUT, ok or not.
-    pub fn put_end(&mut self, now: u64, pass: u64, job: PutJob, ok: bool)
-        requires now { now ≤ 2 ^ 62 }
-        requires job { HasPut self.old pass job }
-        ensures represents { (past : List Entry) → Represents self.old past → Represents self.new (put_end_entry pass (max now (reading_of self.old)) job ok ∷ past) }
-        ensures idle { IsIdle self.new }
-        ensures closer { ok ≡ true → IsCloser self.old self.new }
-        ensures base { SameBase self.old self.new }
-        ensures reading { reading_of self.new ≡ max now (reading_of self.old) }
-    {
-        let PutJob { block: _, zeros: _ } = job;
-        self.reading = now.max(self.reading);
-        self.state = self.state.put_ended(ok);
-    }
-
     /// Whether it has the content of a block.
-    fn holds(&self, block: u32) -> bool
+    pub(crate) fn holds(&self, block: u32) -> bool
         ensures { result ≡ is_some (content_in self.now.state self.now.body.items block) }
     {
         match self.state {
@@ -306,7 +95,7 @@ impl Core {
     }
 
     /// Copies a part of the body.
-    fn copy(&self, part: Part, out: &mut [u8])
+    pub(crate) fn copy(&self, part: Part, out: &mut [u8])
         requires part { IsPart self.now.geometry part }
         requires out { length out.old ≡ part.length }
         ensures { out.new ≡ part_bytes self.now.body.items part }
@@ -317,7 +106,7 @@ impl Core {
     }
 
     /// Writes a part of the body.
-    fn overwrite(&mut self, part: Part, bytes: &[u8])
+    pub(crate) fn overwrite(&mut self, part: Part, bytes: &[u8])
         requires part { IsPart self.old.geometry part }
         requires bytes { length bytes.now ≡ part.length }
         ensures body { self.new.body.items ≡ overlay self.old.body.items part.offset bytes.now }
@@ -333,7 +122,7 @@ impl Core {
     }
 
     /// Begins a GET of a block.
-    fn begin_get(&mut self, pass: u64, block: u32) -> GetJob
+    pub(crate) fn begin_get(&mut self, pass: u64, block: u32) -> GetJob
         ensures job { result ≡ get_job block self.old.reading }
         ensures state { self.new ≡ record self.old { state = Reading block pass self.old.reading } }
     {
@@ -351,7 +140,7 @@ impl Core {
     }
 
     /// Begins a PUT of the body, which is copied to `room`.
-    fn begin_put(&mut self, pass: u64, block: u32, stamp: u64, room: &mut [u8]) -> PutJob
+    pub(crate) fn begin_put(&mut self, pass: u64, block: u32, stamp: u64, room: &mut [u8]) -> PutJob
         requires room { length room.old ≡ self.old.geometry.block_size }
         ensures job { result ≡ put_job block self.old.body.items }
         ensures body { room.new ≡ self.old.body.items }

@@ -1,6 +1,6 @@
 use Rattle.std.proofs.Common.{max, arith, ◌≤◌, ◌<◌}
 use Rattle.sb_core.proofs.Events.{put_begins}
-use Rattle.sb_core.proofs.Writes.{flush_ends, flush_due, none_covered, HasNoneCovered}
+use Rattle.sb_core.proofs.FlushEvents.{flush_ends, flush_due, none_covered, HasNoneCovered}
 use Rattle.sb_core.proofs.machine.Core.flush_step.Goals as goal
 
 pub returns-then-stamp-mark-clause-represents : goal.returns-then-stamp-mark-clause-represents
@@ -10,8 +10,10 @@ returns-then-stamp-mark-clause-represents c past began s =
     let later : core.reading ≤ now = omega arith in
     let dirty = rw c.in-Dirty.is at s in
     let covers : c.in-Dirty.stamp ≤ c.args.mark = omega arith in
-    let due = flush_due core.geometry core.settings core.reading core.epoch core.body.items past c.in-Dirty.block c.in-Dirty.stamp c.args.mark began covers dirty in
-    let begun = put_begins core.geometry core.settings core.reading core.epoch now core.body.items past c.args.pass c.in-Dirty.block c.in-Dirty.stamp later due dirty in
+    let due = flush_due core.geometry core.settings core.reading core.epoch core.body.items past c.in-Dirty.block
+    c.in-Dirty.stamp c.args.mark began covers dirty in
+    let begun = put_begins core.geometry core.settings core.reading core.epoch now core.body.items past c.args.pass
+    c.in-Dirty.block c.in-Dirty.stamp later due dirty in
     rw (c.begin_put.ensures.state, c.begin_put.ensures.job, c.begin_put.ensures.body, c.max-self.ensures) begun
 
 pub returns-else-stamp-mark-clause-represents : goal.returns-else-stamp-mark-clause-represents

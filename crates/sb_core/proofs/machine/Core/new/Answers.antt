@@ -19,5 +19,6 @@ returns-clause-represents c =
       stamps = λ block. no_stamp [];
       later = λ block. no_stamp [];
       rules = tt;
-      policy = fits_cache c.args.geometry c.args.settings Missing c.resize.new.self.items [] base tt (λ block. refl) (λ block. refl);
+      policy = fits_cache c.args.geometry c.args.settings Missing c.resize.new.self.items [] base tt (λ block. refl)
+          (λ block. refl);
     }

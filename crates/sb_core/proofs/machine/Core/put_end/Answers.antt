@@ -1,5 +1,5 @@
 use Rattle.std.proofs.Common.{max, arith, ◌≤◌}
-use Rattle.sb_core.proofs.Writes.{put_ends}
+use Rattle.sb_core.proofs.PutEnds.{put_ends}
 use Rattle.sb_core.proofs.machine.Core.put_end.Goals as goal
 
 pub returns-clause-represents : goal.returns-clause-represents

@@ -16,7 +16,8 @@ returns-in-Missing-clause-represents c past s =
     let core = c.args.self.now in
     let now = max c.args.now core.reading in
     let later : core.reading ≤ now = omega arith in
-    let begun = get_begins core.geometry core.settings core.reading core.epoch now core.body.items past c.args.pass c.args.part.block later c.requires.part.block (rw c.in-Missing.is at s) in
+    let begun = get_begins core.geometry core.settings core.reading core.epoch now core.body.items past c.args.pass
+    c.args.part.block later c.requires.part.block (rw c.in-Missing.is at s) in
     rw (c.begin_get.ensures.state, c.begin_get.ensures.job, c.max-self.ensures) begun
 
 pub returns-in-Clean-clause-represents : goal.returns-in-Clean-clause-represents
@@ -32,6 +33,8 @@ returns-in-Dirty-clause-represents c past s =
     let now = max c.args.now core.reading in
     let later : core.reading ≤ now = omega arith in
     let dirty = rw c.in-Dirty.is at s in
-    let due = no_victim core.geometry core.settings core.reading core.epoch core.body.items past c.in-Dirty.block c.in-Dirty.stamp dirty in
-    let begun = put_begins core.geometry core.settings core.reading core.epoch now core.body.items past c.args.pass c.in-Dirty.block c.in-Dirty.stamp later due dirty in
+    let due = no_victim core.geometry core.settings core.reading core.epoch core.body.items past c.in-Dirty.block
+    c.in-Dirty.stamp dirty in
+    let begun = put_begins core.geometry core.settings core.reading core.epoch now core.body.items past c.args.pass
+    c.in-Dirty.block c.in-Dirty.stamp later due dirty in
     rw (c.begin_put.ensures.state, c.begin_put.ensures.job, c.begin_put.ensures.body, c.max-self.ensures) begun
