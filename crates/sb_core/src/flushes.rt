@@ -33,7 +33,8 @@ impl Core {
     pub fn flush_step(&mut self, now: u64, pass: u64, mark: Mark, out: &mut [u8]) -> FlushStep
         requires now { now ≤ 2 ^ 62 }
         requires out { length out.old ≡ (geometry_of self.old).block_size }
-        ensures represents { AddsAfterFlush mark self.old self.new (flush_step_entry pass (reading_at now self.old) mark out.new result) }
+        ensures represents { AddsAfterFlush mark self.old self.new
+            (flush_step_entry pass (reading_at now self.old) mark out.new result) }
         ensures answer { AnswersFlush self.old mark result }
         ensures copies { CopiesFlush self.old out.new result }
         ensures leads { FlushLeads self.old self.new pass result }

@@ -7,6 +7,8 @@ mod machine;
 mod reads;
 mod state;
 mod step;
+#[cfg(test)]
+mod tests;
 mod writes;
 
 pub use job::{GetJob, Mark, PutJob};

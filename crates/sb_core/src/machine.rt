@@ -1,18 +1,14 @@
 //! The core: the state of a disk whose cache holds one block.
 
-ghost use Rattle.std.specs.Prelude.{◌≡◌, ◌≤◌, ◌<◌, ◌+◌, ◌^◌, max, true, ◌&&◌, nat_eq, List, [], ◌∷◌, length, vec_len, Option, Some, is_some, IsSome, IfOk};
-ghost use Rattle.sb_base.specs.declared.entry.Entry.{Entry};
-ghost use Rattle.sb_base.specs.Lines.{shown_of};
+ghost use Rattle.std.specs.Prelude.{◌≡◌, [], length, vec_len, Some, is_some, IfOk};
 ghost use Rattle.sb_base.specs.Ranges.{IsPart};
 ghost use Rattle.sb_base.specs.Shapes.{IsSound};
 ghost use Rattle.sb_base.specs.SettingsTable.{IsChecked};
 ghost use Rattle.sb_history.specs.Contents.{is_zeros, part_bytes, overlay};
-ghost use Rattle.sb_history.specs.Flushes.{flush_place};
 
-use crate::job::{GetJob, Mark, PutJob};
+use crate::job::{GetJob, PutJob};
 use crate::state::State;
-use crate::step::{FlushStep, GetDone, ReadStep, WriteStep};
-use sb_base::{Answer, Geometry, Part, Settings, Why};
+use sb_base::{Geometry, Part, Settings};
 use std::alloc::{AllocError, Global};
 
 /// The state of a disk. It does no IO: each call but the readers is one event, and tells the caller what to do outside.
@@ -39,9 +35,9 @@ fn is_zeros(content: &[u8]) -> bool
 
 impl Core {
     ghost use Rattle.sb_core.specs.declared.state.State.TheVariants.{Reading, Writing};
-    ghost use Rattle.sb_core.specs.Represents.{Represents, geometry_of, settings_of, reading_of, epoch_of, content_in};
-    ghost use Rattle.sb_core.specs.Steps.{AnswersRead, CopiesRead, read_entry, AnswersWrite, CopiesWrite, write_entry, flush_begin_entry, AnswersFlush, CopiesFlush, flush_step_entry, HasGet, HasPut, ShownFits, get_end_answer, get_end_entry, put_end_entry, get_job, put_job};
-    ghost use Rattle.sb_core.specs.Progress.{IsIdle, IsCloser, ReadLeads, WriteLeads, FlushLeads, SameBase};
+    ghost use Rattle.sb_core.specs.Represents.{Represents, geometry_of, settings_of, reading_of, content_in};
+    ghost use Rattle.sb_core.specs.Steps.{get_job, put_job};
+    ghost use Rattle.sb_core.specs.Progress.{IsIdle};
 
     /// A core that holds no block. Its cache has one entry, and no MD5 is kept.
     pub fn new(alloc: Global, geometry: Geometry, settings: Settings) -> Result<Core, AllocError>

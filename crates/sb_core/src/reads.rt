@@ -29,7 +29,8 @@ impl Core {
         requires part { IsPart (geometry_of self.old) part }
         requires out { length out.old ≡ part.length }
         requires room { length room.old ≡ (geometry_of self.old).block_size }
-        ensures represents { Adds self.old self.new (read_entry pass (reading_at now self.old) part out.new room.new result) }
+        ensures represents { Adds self.old self.new
+            (read_entry pass (reading_at now self.old) part out.new room.new result) }
         ensures answer { AnswersRead self.old (reading_at now self.old) part.block result }
         ensures copies { CopiesRead self.old part out.new room.new result }
         ensures leads { ReadLeads self.old self.new pass part.block result }
@@ -66,7 +67,8 @@ impl Core {
         requires now { now ≤ 2 ^ 62 }
         requires job { HasGet self.old pass job }
         requires answer { ShownFits (geometry_of self.old).block_size job.verify (shown_of answer) }
-        ensures represents { Adds self.old self.new (get_end_entry pass (reading_at now self.old) job (shown_of answer.entry) result) }
+        ensures represents { Adds self.old self.new
+            (get_end_entry pass (reading_at now self.old) job (shown_of answer.entry) result) }
         ensures answer { result ≡ get_end_answer (shown_of answer.entry) }
         ensures idle { IsIdle self.new }
         ensures closer { result ≡ GetDone.Taken → IsCloser self.old self.new }

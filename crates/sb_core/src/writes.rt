@@ -28,7 +28,8 @@ impl Core {
         requires part { IsPart (geometry_of self.old) part }
         requires bytes { length bytes.now ≡ part.length }
         requires out { length out.old ≡ (geometry_of self.old).block_size }
-        ensures represents { Adds self.old self.new (write_entry pass (reading_at now self.old) part bytes.now out.new result) }
+        ensures represents { Adds self.old self.new
+            (write_entry pass (reading_at now self.old) part bytes.now out.new result) }
         ensures answer { AnswersWrite self.old (reading_at now self.old) part result }
         ensures copies { CopiesWrite self.old out.new result }
         ensures leads { WriteLeads self.old self.new pass part.block result }
