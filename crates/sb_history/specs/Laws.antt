@@ -1,5 +1,5 @@
 -- The laws of histories, as statements. The crate sb_laws proves each.
-use Rattle.std.specs.Prelude.{ℕ, ◌≡◌, ◌≢◌, ◌+◌, ◌<◌, ◌≤◌, false, not, nat_le, List, ◌∷◌, ◌++◌, length, Option, Some, None, Contains}
+use Rattle.std.specs.Prelude.{ℕ, ◌≡◌, ◌≢◌, ◌+◌, ◌<◌, ◌≤◌, false, not, nat_le, List, ◌∷◌, ◌++◌, length, Option, Some, None, Contains, max}
 use Rattle.sb_base.specs.SettingsTable.{IsChecked}
 use Rattle.sb_base.specs.declared.part.Part.{Part}
 use Rattle.sb_base.specs.declared.geometry.Geometry.{Geometry}
@@ -10,6 +10,7 @@ use Rattle.sb_base.specs.declared.entry.Entry.{Entry}
 use Rattle.sb_world.specs.declared.link.Call.{Call}
 use Rattle.sb_world.specs.declared.link.Meta.{Meta}
 use Rattle.sb_world.specs.declared.clock.Tick.{Tick}
+use Rattle.sb_world.specs.declared.clock.Tick.TheVariants.{Taken}
 use Rattle.sb_history.specs.Contents.{Start, part_bytes}
 use Rattle.sb_history.specs.Values.{IsLegal, values_since, is_written}
 use Rattle.sb_history.specs.Puts.{puts_of}
@@ -25,7 +26,7 @@ use Rattle.sb_history.specs.States.{state_at, next_state}
 use Rattle.sb_history.specs.Soundness.{IsSoundHistory, IsUnwindowed}
 use Rattle.sb_history.specs.Passes.{entries_of_pass, IsOfPass}
 use Rattle.sb_history.specs.Requests.{RequestLog}
-use Rattle.sb_history.specs.ClockTrace.{Caller, ClockTrace, NonePauses, OneReadingEach}
+use Rattle.sb_history.specs.ClockTrace.{Caller, PausesAfter, PauseTicks, ClockTrace, NonePauses, OneReadingEach}
 
 -- over a store that is stale only within the delays, reads are those of registers
 abbrev pub SoundIsLegal : Type 0
@@ -159,6 +160,25 @@ ClockTracesJoin =
     → ClockTrace geometry settings caller before earlier None first
     → ClockTrace geometry settings caller (earlier ++ before) later next second
     → ClockTrace geometry settings caller before (later ++ earlier) next (second ++ first)
+
+-- an entry of the caller's pass adds the reading taken for it, and the ticks of its pause
+abbrev pub EntryIsTicked : Type 0
+EntryIsTicked =
+    (geometry : Geometry) (settings : Settings) (caller : Caller) (before entries : List Entry) (entry : Entry)
+    (next pause : Option ℕ) (taken : ℕ) (after ticks : List Tick) → entry.pass ≡ caller.pass
+    → entry.reading ≡ max taken (last_reading (entries ++ before))
+    → PausesAfter geometry settings (entries ++ before) taken entry.kind pause
+    → PauseTicks caller.alone taken next pause after
+    → ClockTrace geometry settings caller before entries (Some taken) ticks
+    → ClockTrace geometry settings caller before (entry ∷ entries) next (after ++ Taken taken ∷ ticks)
+
+-- an entry of another pass adds nothing
+abbrev pub OtherPassIsUnticked : Type 0
+OtherPassIsUnticked =
+    (geometry : Geometry) (settings : Settings) (caller : Caller) (before entries : List Entry) (entry : Entry)
+    (next : Option ℕ) (ticks : List Tick) → entry.pass ≢ caller.pass
+    → ClockTrace geometry settings caller before entries next ticks
+    → ClockTrace geometry settings caller before (entry ∷ entries) next ticks
 
 -- where no entry pauses, one reading for each is the trace
 abbrev pub PlainTraceHolds : Type 0

@@ -1,6 +1,6 @@
 -- The calls and the ticks of two segments of a history are those of both.
 use Rattle.std.proofs.Common.{ℕ, ◌≡◌, ◌+◌, Bool, true, false, nat_eq, if◌then◌else◌, max, List, [], ◌∷◌, ◌++◌, Option, Some, None, refl, sym, ◌∙◌, ap, subst, inl, inr}
-use Rattle.std.proofs.lemmas.Bool.{eq-eqb}
+use Rattle.std.proofs.lemmas.Bool.{eq-eqb, ne_eqb}
 use Rattle.sb_base.specs.declared.geometry.Geometry.{Geometry}
 use Rattle.sb_base.specs.declared.settings.Settings.{Settings}
 use Rattle.sb_base.specs.declared.entry.EntryKind.{EntryKind}
@@ -13,7 +13,7 @@ use Rattle.sb_world.specs.declared.clock.Tick.TheVariants as tick
 use Rattle.sb_history.specs.AccessRules.{last_reading}
 use Rattle.sb_history.specs.Requests.{put_content, put_content_after, meta_of, IsPutCall, IsCallOf, RequestLog}
 use Rattle.sb_history.specs.ClockTrace.{Caller, Reaches, PauseTicks, PausesAfter, IsTicked, IsTickedIf, ClockTrace}
-use Rattle.sb_history.specs.Laws.{RequestsJoin, ClockTracesJoin, PlainTraceHolds}
+use Rattle.sb_history.specs.Laws.{RequestsJoin, ClockTracesJoin, EntryIsTicked, OtherPassIsUnticked, PlainTraceHolds}
 
 -- a put that began in the later segment is that of both
 content_after :
@@ -43,7 +43,8 @@ module _ (first : List Call) (R S : List Call → Type 0) (more : (calls : List 
         subst (λ o. IsPutCall name meta o ok (calls ++ first) S) (sym (content_joins later earlier block content is))
         (asked.0, asked.1 ++ first, ap (λ t. t ++ first) asked.2, asked.3, more asked.1 asked.4)
 
-    call_joins : (name : ℕ → List ℕ) (meta : Option Meta) (later earlier : List Entry) (e : EntryKind) (calls : List Call)
+    call_joins :
+        (name : ℕ → List ℕ) (meta : Option Meta) (later earlier : List Entry) (e : EntryKind) (calls : List Call)
         → IsCallOf name meta later e calls R → IsCallOf name meta (later ++ earlier) e (calls ++ first) S
     call_joins name meta later earlier (kind.GetEnd block answer verify taken) calls asked =
         (asked.0, asked.1 ++ first, ap (λ t. t ++ first) asked.2, asked.3, more asked.1 asked.4)
@@ -135,12 +136,29 @@ true_ticked :
 true_ticked true geometry settings alone next past entry ticks R is ticked = ticked
 true_ticked false geometry settings alone next past entry ticks R is ticked = absurd (cc)
 
-same_number : (n m : ℕ) → n ≡ m → nat_eq n m ≡ true
-same_number n m is = eq-eqb n m is
-
 pub plain_trace_holds : PlainTraceHolds
 plain_trace_holds geometry settings caller before [] next ticks of_pass none one = one
 plain_trace_holds geometry settings caller before (entry ∷ entries) next ticks of_pass none one =
     true_ticked (nat_eq entry.pass caller.pass) geometry settings caller.alone next (entries ++ before) entry ticks
-    (ClockTrace geometry settings caller before entries) (same_number entry.pass caller.pass of_pass.0)
+    (ClockTrace geometry settings caller before entries) (eq-eqb entry.pass caller.pass of_pass.0)
     (one.0, None, [], one.1, one.2, one.3, none.0 one.0, refl, plain_trace_holds geometry settings caller before entries (Some one.0) one.1 of_pass.1 none.1 one.4)
+
+pub entry_is_ticked : EntryIsTicked
+entry_is_ticked geometry settings caller before entries entry next pause taken after ticks of_pass reading pauses paused
+    trace =
+    true_ticked (nat_eq entry.pass caller.pass) geometry settings caller.alone next (entries ++ before) entry
+    (after ++ tick.Taken taken ∷ ticks)
+    (ClockTrace geometry settings caller before entries) (eq-eqb entry.pass caller.pass of_pass)
+    (taken, pause, after, ticks, refl, reading, pauses, paused, trace)
+
+false_ticked :
+    (t : Bool) (geometry : Geometry) (settings : Settings) (alone : Bool) (next : Option ℕ) (past : List Entry)
+    (entry : Entry) (ticks : List Tick) (R : Option ℕ → List Tick → Type 0) → t ≡ false → R next ticks
+    → IsTickedIf t geometry settings alone next past entry ticks R
+false_ticked true geometry settings alone next past entry ticks R is others = absurd (cc)
+false_ticked false geometry settings alone next past entry ticks R is others = others
+
+pub other_pass_is_unticked : OtherPassIsUnticked
+other_pass_is_unticked geometry settings caller before entries entry next ticks other trace =
+    false_ticked (nat_eq entry.pass caller.pass) geometry settings caller.alone next (entries ++ before) entry ticks
+    (ClockTrace geometry settings caller before entries) (ne_eqb entry.pass caller.pass other) trace

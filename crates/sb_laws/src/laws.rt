@@ -4,8 +4,10 @@ ghost use Rattle.sb_history.specs.Laws.{
   AckedIsPossible,
   CheckedSettingsCover,
   ClockTracesJoin,
+  EntryIsTicked,
   NextMountIsRecent,
   OnePassIsAll,
+  OtherPassIsUnticked,
   PassesJoin,
   PlainTraceHolds,
   RequestsJoin,
@@ -106,6 +108,16 @@ pub fn requests_join()
 /// The ticks of two segments of a history are those of both.
 pub fn clock_traces_join()
     ensures { ClockTracesJoin }
+{}
+
+/// An entry of the caller's pass adds the reading taken for it, and the ticks of its pause.
+pub fn entry_is_ticked()
+    ensures { EntryIsTicked }
+{}
+
+/// An entry of another pass adds nothing to the caller's ticks.
+pub fn other_pass_is_unticked()
+    ensures { OtherPassIsUnticked }
 {}
 
 /// Where no entry is followed by a pause, one reading for each is the clock's trace.

@@ -5,11 +5,11 @@ mod laws;
 mod worked;
 
 pub use laws::{
-    acked_is_possible, checked_settings_cover, clock_traces_join, next_mount_is_recent,
-    one_pass_is_all, passes_join, plain_trace_holds, requests_join, settled_is_possible,
-    smaller_delays_are_within, sound_flushes, sound_is_legal, sound_survives_crash, stale_is_young,
-    stamps_are_epochs, states_go_by_table, unwindowed_expects_nothing, unwindowed_flushes,
-    unwindowed_is_legal, unwindowed_survives_crash,
+    acked_is_possible, checked_settings_cover, clock_traces_join, entry_is_ticked,
+    next_mount_is_recent, one_pass_is_all, other_pass_is_unticked, passes_join, plain_trace_holds,
+    requests_join, settled_is_possible, smaller_delays_are_within, sound_flushes, sound_is_legal,
+    sound_survives_crash, stale_is_young, stamps_are_epochs, states_go_by_table,
+    unwindowed_expects_nothing, unwindowed_flushes, unwindowed_is_legal, unwindowed_survives_crash,
 };
 pub use worked::{
     clock_that_stands_still, failed_put_shown_late, flush_waits_for_its_put,
