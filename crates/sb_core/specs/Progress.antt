@@ -26,12 +26,11 @@ is_idle (Writing2 held pass stamp later) = false
 abbrev pub IsIdle : Core → Type 0
 IsIdle core = is_idle core.state ≡ true
 
--- how many events come at most until the block that is held, if it is this one, is clean: a block of another number
--- then leaves and this one is asked for
+-- n events make the block that is held clean, and three more make room for another one and get it
 abbrev pub steps_for : ℕ → ℕ → ℕ → ℕ
 steps_for held block n = if nat_eq held block then n else n + 3
 
--- by what the entry holds
+-- the same by what the entry holds
 abbrev pub steps_left_in : State → ℕ → ℕ
 steps_left_in Missing block = 2
 steps_left_in (Reading held pass begun) block = steps_for held block 1
@@ -45,23 +44,24 @@ steps_left_in (Writing2 held pass stamp later) block = steps_for held block 3
 abbrev pub steps_left : Core → ℕ → ℕ
 steps_left core block = steps_left_in core.state block
 
--- a GET of the block has begun, and a read of it is closer
+-- a GET of the block has begun, and the block is closer
 pub record LeadsToGet (old new : Core) (pass block : ℕ) (job : GetJob) : Type 0 where
   pub same_block : job.block ≡ block
   pub begun : HasGet new pass job
   pub closer : steps_left new block < steps_left old block
 
--- a PUT has begun, and each call is closer to its answer
+-- a PUT has begun, and each block is closer
 pub record LeadsToPut (old new : Core) (pass : ℕ) (job : PutJob) : Type 0 where
   pub begun : HasPut new pass job
   pub closer : (block : ℕ) → steps_left new block < steps_left old block
 
--- nothing is open, and a read of the block is closer
+-- nothing is open, and the block is closer
 pub record LeadsOn (old new : Core) (block : ℕ) : Type 0 where
   pub idle : IsIdle new
   pub closer : steps_left new block < steps_left old block
 
--- where an answer to a read leads: an idle core stays idle or begins what it answers, and never waits
+-- where an answer to a read leads: a core that is idle never lets the read wait, and is idle again unless a GET or a PUT
+-- has begun
 abbrev pub ReadLeads : Core → Core → ℕ → ℕ → ReadStep → Type 0
 ReadLeads old new pass block read.Done = IsIdle old → IsIdle new
 ReadLeads old new pass block (read.Wait why) = is_idle old.state ≡ false
@@ -83,7 +83,7 @@ FlushLeads old new pass flush.Done = IsIdle old → IsIdle new
 FlushLeads old new pass (flush.Wait why) = is_idle old.state ≡ false
 FlushLeads old new pass (flush.Put job) = LeadsToPut old new pass job
 
--- each call is closer to its answer
+-- each block is closer
 abbrev pub IsCloser : Core → Core → Type 0
 IsCloser old new = (block : ℕ) → steps_left new block < steps_left old block
 

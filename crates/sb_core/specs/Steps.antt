@@ -48,10 +48,15 @@ read_answer (Writing2 held pass stamp later) body reading block =
 abbrev pub AnswersRead : Core → ℕ → ℕ → ReadStep → Type 0
 AnswersRead core reading block step = step ≡ read_answer core.state core.body.items reading block
 
+-- the block that is put was copied, and the job tells whether it is zeros
+pub record CopiesBlock (core : Core) (room : List ℕ) (job : PutJob) : Type 0 where
+  pub body : room ≡ core.body.items
+  pub zeros : job.zeros ≡ is_zeros room
+
 -- the bytes that an answer comes with: those of the part, or the block that is put
 abbrev pub CopiesRead : Core → Part → List ℕ → List ℕ → ReadStep → Type 0
 CopiesRead core part out room read.Done = out ≡ part_bytes core.body.items part
-CopiesRead core part out room (read.Put job) = room ≡ core.body.items
+CopiesRead core part out room (read.Put job) = CopiesBlock core room job
 CopiesRead core part out room step = Unit {0}
 
 -- what an answer to a read is in the history
@@ -89,7 +94,7 @@ AnswersWrite core reading part step =
 
 -- the bytes that an answer comes with: those of the block that is put
 abbrev pub CopiesWrite : Core → List ℕ → WriteStep → Type 0
-CopiesWrite core out (write.Put job) = out ≡ core.body.items
+CopiesWrite core out (write.Put job) = CopiesBlock core out job
 CopiesWrite core out step = Unit {0}
 
 -- what an answer to a write is in the history
@@ -123,7 +128,7 @@ AnswersFlush core mark step = step ≡ flush_answer core.state core.body.items m
 
 -- the bytes that an answer comes with: those of the block that is put
 abbrev pub CopiesFlush : Core → List ℕ → FlushStep → Type 0
-CopiesFlush core out (flush.Put job) = out ≡ core.body.items
+CopiesFlush core out (flush.Put job) = CopiesBlock core out job
 CopiesFlush core out step = Unit {0}
 
 -- what an answer to a step of a flush is in the history
