@@ -89,10 +89,10 @@ impl State {
                 stamp,
                 later,
                 ..
-            } => State::Dirty {
-                block,
-                stamp: if ok { later } else { stamp },
-            },
+            } => {
+                let left = if ok { later } else { stamp };
+                State::Dirty { block, stamp: left }
+            }
             other => other,
         }
     }
