@@ -1,0 +1,4 @@
+pub mod Moves
+pub mod Represents
+pub mod Steps
+pub mod Progress
