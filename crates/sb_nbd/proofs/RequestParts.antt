@@ -1,5 +1,5 @@
 -- How the parts of a request join.
-use Rattle.std.proofs.Common.{ℕ, ◌≡◌, ◌≤◌, ◌<◌, ◌+◌, List, [], ◌++◌, Option, Err, length, subst, refl, arith, append-nil, inl, inr}
+use Rattle.std.proofs.Common.{ℕ, ◌≡◌, List, ◌++◌, Option, Err, length, subst, refl, arith, append-nil, inl, inr}
 use Rattle.std.proofs.lemmas.List.{length-append}
 use Rattle.sb_world.specs.Streams.{Takes}
 use Rattle.sb_nbd.specs.declared.wanted.Wanted.{Wanted}
