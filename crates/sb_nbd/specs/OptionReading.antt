@@ -14,7 +14,9 @@ abbrev pub IsCutOption : List ℕ → Type 0
 IsCutOption bytes =
     (length bytes < 8)
     ⊎ (((head : List ℕ) × (bytes ≡ options.option_magic_bytes ++ head) × (length head < 8))
-    ⊎ ((a : Asked) × (payload : List ℕ) × options.FitsHead a × (bytes ≡ options.option_magic_bytes ++ (options.head_bytes a ++ payload)) × (length payload < a.length) × (a.length ≤ MAX_OPTION)))
+    ⊎ ((a : Asked) × (payload : List ℕ) × options.FitsHead a
+    × (bytes ≡ options.option_magic_bytes ++ (options.head_bytes a ++ payload))
+    × (length payload < a.length) × (a.length ≤ MAX_OPTION)))
 
 -- the bytes in an option's place, of which no more were taken, end the reading so
 abbrev pub StopsOption : Option (List ℕ) → List ℕ → NbdEnd → Type 0
@@ -22,7 +24,8 @@ StopsOption now bytes Ended = (bytes ≡ []) × IsAtEnd now
 StopsOption now bytes (Cut got) = (length bytes ≡ got) × (0 < got) × IsCutOption bytes × IsAtEnd now
 StopsOption now bytes (BadMagic magic) = (bytes ≡ to_be_bytes w64 magic) × (magic < 2 ^ 64) × (magic ≢ OPTION_MAGIC)
 StopsOption now bytes (BadFlags flags) = ⊥
-StopsOption now bytes (TooBig length) = (a : Asked) × options.FitsHead a × (bytes ≡ options.option_magic_bytes ++ options.head_bytes a) × (a.length ≡ length) × (MAX_OPTION < length)
+StopsOption now bytes (TooBig length) = (a : Asked) × options.FitsHead a
+    × (bytes ≡ options.option_magic_bytes ++ options.head_bytes a) × (a.length ≡ length) × (MAX_OPTION < length)
 StopsOption now bytes ReadFault = Unit {0}
 StopsOption now bytes WriteFault = ⊥
 
@@ -32,7 +35,8 @@ option_in a room = record { asked = a; payload = take a.length room }
 
 -- one option was taken, or the bytes that end the reading
 abbrev pub ReadsOption : Option (List ℕ) → Option (List ℕ) → Result Asked NbdEnd → List ℕ → Type 0
-ReadsOption before now (Ok a) room = options.IsOption (option_in a room) × Takes before now (options.option_bytes (option_in a room))
+ReadsOption before now (Ok a) room = options.IsOption (option_in a room)
+    × Takes before now (options.option_bytes (option_in a room))
 ReadsOption before now (Err end) room = (bytes : List ℕ) × Takes before now bytes × StopsOption now bytes end
 
 -- the magic was taken, or the bytes that end the reading
@@ -50,7 +54,9 @@ ReadsHead before now (Err end) = ⊥
 -- the payload behind magic and head was taken, or fewer bytes; it is taken only where it isn't too long
 abbrev pub ReadsOptionPayload : Option (List ℕ) → Option (List ℕ) → Asked → Result Unit NbdEnd → List ℕ → Type 0
 ReadsOptionPayload before now a (Ok done) room = Takes before now (take a.length room) × (a.length ≤ MAX_OPTION)
-ReadsOptionPayload before now a (Err (Cut got)) room = (bytes : List ℕ) × Takes before now bytes × IsShort now 16 bytes a.length got × (a.length ≤ MAX_OPTION)
-ReadsOptionPayload before now a (Err (TooBig length)) room = Takes before now [] × (a.length ≡ length) × (MAX_OPTION < length)
+ReadsOptionPayload before now a (Err (Cut got)) room =
+    (bytes : List ℕ) × Takes before now bytes × IsShort now 16 bytes a.length got × (a.length ≤ MAX_OPTION)
+ReadsOptionPayload before now a (Err (TooBig length)) room =
+    Takes before now [] × (a.length ≡ length) × (MAX_OPTION < length)
 ReadsOptionPayload before now a (Err ReadFault) room = (bytes : List ℕ) × Takes before now bytes
 ReadsOptionPayload before now a (Err end) room = ⊥

@@ -18,6 +18,7 @@ pub record IsShort (now : Option (List ℕ)) (had : ℕ) (bytes : List ℕ) (who
 -- a part of a message was taken whole, or cut
 abbrev pub TakesPart : Option (List ℕ) → Option (List ℕ) → ℕ → Result Unit NbdEnd → List ℕ → Type 0
 TakesPart before now had (Ok done) out = Takes before now out
-TakesPart before now had (Err (Cut got)) out = (bytes : List ℕ) × Takes before now bytes × IsShort now had bytes (length out) got
+TakesPart before now had (Err (Cut got)) out =
+    (bytes : List ℕ) × Takes before now bytes × IsShort now had bytes (length out) got
 TakesPart before now had (Err ReadFault) out = (bytes : List ℕ) × Takes before now bytes
 TakesPart before now had (Err end) out = ⊥

@@ -11,7 +11,8 @@ magic_bytes = to_be_bytes w32 REQUEST_MAGIC
 
 -- the fields behind the magic
 unfoldable pub fields_bytes : Wanted → List ℕ
-fields_bytes w = to_be_bytes w16 w.flags ++ (to_be_bytes w16 w.kind ++ (to_be_bytes w64 w.cookie ++ (to_be_bytes w64 w.offset ++ to_be_bytes w32 w.length)))
+fields_bytes w = to_be_bytes w16 w.flags ++ (to_be_bytes w16
+    w.kind ++ (to_be_bytes w64 w.cookie ++ (to_be_bytes w64 w.offset ++ to_be_bytes w32 w.length)))
 
 -- numbers that the fields have room for
 pub record FitsFields (w : Wanted) : Type 0 where

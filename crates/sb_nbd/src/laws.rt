@@ -6,10 +6,12 @@ ghost use Rattle.sb_nbd.specs.Options.{Option, IsOption, option_bytes};
 
 /// No request's bytes begin another's.
 pub fn one_request()
-    ensures { (r s : Request) (x y : List ℕ) → IsRequest r → IsRequest s → request_bytes r ++ x ≡ request_bytes s ++ y → (r ≡ s) × (x ≡ y) }
+    ensures { (r s : Request) (x y : List ℕ) → IsRequest r → IsRequest s
+        → request_bytes r ++ x ≡ request_bytes s ++ y → (r ≡ s) × (x ≡ y) }
 {}
 
 /// No option's bytes begin another's.
 pub fn one_option()
-    ensures { (p q : Option) (x y : List ℕ) → IsOption p → IsOption q → option_bytes p ++ x ≡ option_bytes q ++ y → (p ≡ q) × (x ≡ y) }
+    ensures { (p q : Option) (x y : List ℕ) → IsOption p → IsOption q
+        → option_bytes p ++ x ≡ option_bytes q ++ y → (p ≡ q) × (x ≡ y) }
 {}

@@ -12,7 +12,9 @@ loop-n-preserved g c =
     record {
       within = search (rules, overwrites);
       length = search (rules, overwrites);
-      taken = subst (λ bytes. Takes (left c.args.source.now) (left c.read.new.self) bytes) (sym (take_filled c.loop-n.n c.in-Ok.count _ c.loop-n.out c.read.new.out before.within more.told.0)) (takes_both before.taken more.told.1);
+      taken = subst (λ bytes. Takes (left c.args.source.now) (left c.read.new.self) bytes)
+          (sym (take_filled c.loop-n.n c.in-Ok.count _ c.loop-n.out c.read.new.out before.within more.told.0))
+          (takes_both before.taken more.told.1);
       later = omega (arith, before.later, more.cause.later);
     }
 
