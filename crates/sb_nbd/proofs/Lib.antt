@@ -1,0 +1,4 @@
+pub mod Streaming
+pub mod RequestParts
+pub mod OptionParts
+pub mod OneForm

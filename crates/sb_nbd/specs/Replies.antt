@@ -1,0 +1,12 @@
+-- Replies as bytes (NBD protocol, "Simple reply message").
+use Rattle.std.specs.Prelude.{ℕ, List, ◌++◌}
+use Rattle.std.specs.Int.{w32, w64, to_be_bytes}
+use Rattle.sb_nbd.specs.declared.reply.TheConstants.{REPLY_MAGIC}
+
+-- magic, error and cookie
+unfoldable pub reply_head : ℕ → ℕ → List ℕ
+reply_head error cookie = to_be_bytes w32 REPLY_MAGIC ++ (to_be_bytes w32 error ++ to_be_bytes w64 cookie)
+
+-- a reply with its body
+abbrev pub reply_bytes : ℕ → ℕ → List ℕ → List ℕ
+reply_bytes error cookie body = reply_head error cookie ++ body

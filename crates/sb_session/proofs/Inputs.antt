@@ -1,0 +1,259 @@
+-- An input is read in one way.
+use Rattle.std.proofs.Common.{ℕ, ◌≡◌, ◌≤◌, ◌<◌, ◌+◌, ◌∙◌, ◌⊎◌, ◌^◌, Bool, List, [], ◌∷◌, ◌++◌, Option, Some, length, true, false, append_assoc, append-nil, ap, sym, subst, refl, arith, inl, inr, nat_eq, if◌then◌else◌}
+use Rattle.std.specs.Int.{w32, to_be_bytes}
+use Rattle.std.specs.List.{AllByRecursion}
+use Rattle.std.proofs.lemmas.Bool.Decides.{nat_tests}
+use Rattle.std.proofs.lemmas.List.{length-append}
+use Rattle.sb_base.specs.declared.geometry.Geometry.{Geometry}
+use Rattle.sb_base.specs.declared.entry.Entry.{Entry}
+use Rattle.sb_world.specs.declared.link.Call.{Call}
+use Rattle.sb_nbd.specs.declared.wanted.Wanted.{Wanted}
+use Rattle.sb_nbd.specs.declared.request.TheConstants.{REQUEST_MAGIC}
+use Rattle.sb_nbd.specs.declared.end.NbdEnd.{NbdEnd}
+use Rattle.sb_nbd.specs.declared.end.NbdEnd.TheVariants as nbd
+use Rattle.sb_nbd.specs.Requests.{magic_bytes, fields_bytes, payload_length, Request, IsRequest, request_bytes}
+use Rattle.sb_nbd.specs.RequestReading.{IsCutRequest, StopsRequest}
+use Rattle.sb_nbd.proofs.OneForm.{one_request, split_same, same_4, regrouped, same_wanted_first}
+use Rattle.sb_nbd.proofs.RequestParts.{length-magic_bytes, length-fields_bytes}
+use Rattle.sb_session.specs.declared.end.SessionEnd.{SessionEnd}
+use Rattle.sb_session.specs.declared.end.SessionEnd.TheVariants.{Disconnected, Ended, Refused, ReadFault, WriteFault, Spent}
+use Rattle.sb_session.specs.Goals.{is_served, is_disc}
+use Rattle.sb_session.specs.Transcripts.{Exchange, IsTranscript, asking_bytes, requests_of}
+use Rattle.sb_session.specs.Handshakes.{end_of}
+use Rattle.sb_session.specs.Turns.{Stopped, StopsBy}
+use Rattle.sb_session.specs.Inputs.{bytes_of, IsServed, IsUnserved, IsDisc, IsMalformed, IsRefused, EndsInput, IsInput, IsByInput}
+
+bytes_of-append : (xs ys : List Request) → bytes_of (xs ++ ys) ≡ bytes_of xs ++ bytes_of ys
+bytes_of-append [] ys = refl
+bytes_of-append (x ∷ xs) ys = ap (λ bytes. request_bytes x ++ bytes) (bytes_of-append xs ys)
+    ∙ sym (append_assoc (request_bytes x) (bytes_of xs) (bytes_of ys))
+
+asking_bytes-in_order : (xs : List Exchange) → asking_bytes xs ≡ bytes_of (requests_of xs)
+asking_bytes-in_order [] = refl
+asking_bytes-in_order (x ∷ xs) =
+    ap (λ bytes. bytes ++ request_bytes x.request) (asking_bytes-in_order xs)
+    ∙ ap (λ bytes. bytes_of (requests_of xs) ++ bytes) (sym (append-nil (request_bytes x.request)))
+    ∙ sym (bytes_of-append (requests_of xs) (x.request ∷ []))
+
+served_join : (geometry : Geometry) (xs ys : List Request) → AllByRecursion (IsServed geometry) xs
+    → AllByRecursion (IsServed geometry) ys → AllByRecursion (IsServed geometry) (xs ++ ys)
+served_join geometry [] ys first second = second
+served_join geometry (x ∷ xs) ys first second = (first.0, served_join geometry xs ys first.1 second)
+
+transcript_served : (geometry : Geometry) (xs : List Exchange) → IsTranscript geometry xs
+    → AllByRecursion (IsServed geometry) (requests_of xs)
+transcript_served geometry [] answered = tt
+transcript_served geometry (x ∷ xs) answered =
+    served_join geometry (requests_of xs) (x.request ∷ []) (transcript_served geometry xs answered.1)
+    (record { request = answered.0.request; served = answered.0.served }, tt)
+
+long : (r : Request) (x : List ℕ) → 28 + length r.payload ≤ length (request_bytes r ++ x)
+long r x = omega (
+  arith,
+  ap length (regrouped r x),
+  length-append magic_bytes (fields_bytes r.wanted ++ (r.payload ++ x)),
+  length-append (fields_bytes r.wanted) (r.payload ++ x),
+  length-append r.payload x,
+  length-magic_bytes,
+  length-fields_bytes r.wanted,
+)
+
+no_cut : (r : Request) (x : List ℕ) → IsRequest r → IsCutRequest (request_bytes r ++ x) → ⊥
+no_cut r x is (inl short) = omega (arith, short, long r x)
+no_cut r x is (inr (inl h)) = omega (
+  arith,
+  ap length h.1,
+  length-append magic_bytes h.0,
+  length-magic_bytes,
+  h.2,
+  long r x,
+)
+no_cut r x is (inr (inr h)) =
+    let same = same_wanted_first r h.0 x h.1 h.2 is h.3 in
+    omega (arith, ap length same.1, length-append r.payload x, is.payload, ap payload_length same.0, h.4)
+
+magic_differs : (magic : ℕ) (r : Request) (x after : List ℕ) → magic < 2 ^ 32
+    → request_bytes r ++ x ≡ to_be_bytes w32 magic ++ after → magic ≡ REQUEST_MAGIC
+unfolding magic_bytes
+magic_differs magic r x after fits e =
+    let first = split_same magic_bytes (to_be_bytes w32 magic) _ _ refl (sym (regrouped r x) ∙ e) in
+    same_4 magic REQUEST_MAGIC fits (omega arith) (sym first.0)
+
+-- where a request stands, nothing that is none stands
+no_malformed : (r : Request) (x : List ℕ) (end : NbdEnd) → IsRequest r → IsMalformed (request_bytes r ++ x) end → ⊥
+no_malformed r x nbd.Ended is h = h
+no_malformed r x (nbd.Cut got) is h = no_cut r x is h.2
+no_malformed r x (nbd.BadMagic magic) is h = h.2 (magic_differs magic r x h.0 h.1 h.3)
+no_malformed r x (nbd.BadFlags flags) is h = h
+no_malformed r x (nbd.TooBig size) is h =
+    let same = same_wanted_first r h.0 x h.1 h.2 is h.6 in
+    let kind = ap (λ (w : Wanted). w.kind) same.0 ∙ h.3 in
+    let asked = ap (λ k. if nat_eq k 1 then r.wanted.length else 0) kind in
+    omega (arith, asked, is.within, ap (λ (w : Wanted). w.length) same.0, h.4, h.5)
+no_malformed r x nbd.ReadFault is h = h
+no_malformed r x nbd.WriteFault is h = h
+
+length_magic : (magic : ℕ) → length (to_be_bytes w32 magic) ≡ 4
+length_magic magic = refl
+
+different : true ≡ false → ⊥
+different e = cc
+
+-- a READ is no DISC
+served_goes_on : (geometry : Geometry) (w : Wanted) → is_served geometry w ≡ true → is_disc w ≡ true → ⊥
+served_goes_on geometry w served disc = grind (arith, nat_tests)
+
+-- where a request that is served stands, an input doesn't end
+no_end : (geometry : Geometry) (r : Request) (x : List ℕ) (end : SessionEnd) → IsServed geometry r
+    → IsByInput end → EndsInput geometry (request_bytes r ++ x) end → ⊥
+no_end geometry r x Disconnected is by h =
+    let same = (one_request r h.0 x h.1 is.request h.2.request h.3).0 in
+    served_goes_on geometry r.wanted is.served (ap (λ (q : Request). is_disc q.wanted) same ∙ h.2.disc)
+no_end geometry r x Ended is by h = omega (arith, ap length h, long r x)
+no_end geometry r x Refused is by (inl h) =
+    let same = (one_request r h.0 x h.1 is.request h.2.request h.3).0 in
+    different (sym is.served ∙ ap (λ (q : Request). is_served geometry q.wanted) same ∙ h.2.unserved)
+no_end geometry r x Refused is by (inr h) = no_malformed r x h.0 is.request h.1
+no_end geometry r x ReadFault is by h = by
+no_end geometry r x WriteFault is by h = by
+no_end geometry r x Spent is by h = by
+
+pub one_reading : (geometry : Geometry) (rs ss : List Request) (t u : List ℕ) (e f : SessionEnd)
+    → IsByInput e → IsByInput f
+    → AllByRecursion (IsServed geometry) rs → AllByRecursion (IsServed geometry) ss → EndsInput geometry t e
+    → EndsInput geometry u f → bytes_of rs ++ t ≡ bytes_of ss ++ u → (rs ≡ ss) × (t ≡ u)
+one_reading geometry [] [] t u e f by other first second ends ends_too same = (refl, same)
+one_reading geometry [] (s ∷ ss) t u e f by other first second ends ends_too same =
+    absurd (no_end geometry s (bytes_of ss ++ u) e second.0 by
+    (subst (λ tail. EndsInput geometry tail e) (same ∙ append_assoc (request_bytes s) (bytes_of ss) u) ends))
+one_reading geometry (r ∷ rs) [] t u e f by other first second ends ends_too same =
+    absurd (no_end geometry r (bytes_of rs ++ t) f first.0 other
+    (subst (λ tail. EndsInput geometry tail f)
+    (sym same ∙ append_assoc (request_bytes r) (bytes_of rs) t) ends_too))
+one_reading geometry (r ∷ rs) (s ∷ ss) t u e f by other first second ends ends_too same =
+    let split = one_request r s (bytes_of rs ++ t) (bytes_of ss ++ u) first.0.request second.0.request
+    (sym (append_assoc (request_bytes r) (bytes_of rs) t) ∙ same
+    ∙ append_assoc (request_bytes s) (bytes_of ss) u) in
+    let more = one_reading geometry rs ss t u e f by other first.1 second.1 ends ends_too split.1 in
+    (ap (λ q. q ∷ rs) split.0 ∙ ap (λ qs. s ∷ qs) more.0, more.1)
+
+request_not_empty : (r : Request) (after bytes : List ℕ) → bytes ≡ request_bytes r ++ after → bytes ≡ [] → ⊥
+request_not_empty r after bytes is none = omega (arith, ap length is, ap length none, long r after)
+
+disc_not_refused : (geometry : Geometry) (r : Request) (after bytes : List ℕ) → IsDisc r
+    → bytes ≡ request_bytes r ++ after → IsRefused geometry bytes → ⊥
+disc_not_refused geometry r after bytes is first (inl h) =
+    let same = (one_request r h.0 after h.1 is.request h.2.request (sym first ∙ h.3)).0 in
+    different (sym is.disc ∙ ap (λ (q : Request). is_disc q.wanted) same ∙ h.2.goes_on)
+disc_not_refused geometry r after bytes is first (inr h) =
+    no_malformed r after h.0 is.request (subst (λ all. IsMalformed all h.0) first h.1)
+
+empty_not_malformed : (bytes : List ℕ) (end : NbdEnd) → bytes ≡ [] → IsMalformed bytes end → ⊥
+empty_not_malformed bytes nbd.Ended none h = h
+empty_not_malformed bytes (nbd.Cut got) none h = omega (arith, ap length none, h.0, h.1)
+empty_not_malformed bytes (nbd.BadMagic magic) none h =
+    omega (arith, ap length none, ap length h.3, length-append (to_be_bytes w32 magic) h.0, length_magic magic)
+empty_not_malformed bytes (nbd.BadFlags flags) none h = h
+empty_not_malformed bytes (nbd.TooBig size) none h =
+    omega (
+      arith,
+      ap length none,
+      ap length h.6,
+      length-append magic_bytes (fields_bytes h.0 ++ h.1),
+      length-magic_bytes,
+    )
+empty_not_malformed bytes nbd.ReadFault none h = h
+empty_not_malformed bytes nbd.WriteFault none h = h
+
+empty_not_refused : (geometry : Geometry) (bytes : List ℕ) → bytes ≡ [] → IsRefused geometry bytes → ⊥
+empty_not_refused geometry bytes none (inl h) = request_not_empty h.0 h.1 bytes h.3 none
+empty_not_refused geometry bytes none (inr h) = empty_not_malformed bytes h.0 none h.1
+
+same_end : (geometry : Geometry) (bytes : List ℕ) (e f : SessionEnd) → IsByInput e → IsByInput f
+    → EndsInput geometry bytes e → EndsInput geometry bytes f → e ≡ f
+same_end geometry bytes ReadFault f by other h k = absurd by
+same_end geometry bytes WriteFault f by other h k = absurd by
+same_end geometry bytes Spent f by other h k = absurd by
+same_end geometry bytes Disconnected Disconnected by other h k = refl
+same_end geometry bytes Disconnected Ended by other h k = absurd (request_not_empty h.0 h.1 bytes h.3 k)
+same_end geometry bytes Disconnected Refused by other h k = absurd (disc_not_refused geometry h.0 h.1 bytes h.2 h.3 k)
+same_end geometry bytes Disconnected ReadFault by other h k = absurd other
+same_end geometry bytes Disconnected WriteFault by other h k = absurd other
+same_end geometry bytes Disconnected Spent by other h k = absurd other
+same_end geometry bytes Ended Disconnected by other h k = absurd (request_not_empty k.0 k.1 bytes k.3 h)
+same_end geometry bytes Ended Ended by other h k = refl
+same_end geometry bytes Ended Refused by other h k = absurd (empty_not_refused geometry bytes h k)
+same_end geometry bytes Ended ReadFault by other h k = absurd other
+same_end geometry bytes Ended WriteFault by other h k = absurd other
+same_end geometry bytes Ended Spent by other h k = absurd other
+same_end geometry bytes Refused Disconnected by other h k = absurd (disc_not_refused geometry k.0 k.1 bytes k.2 k.3 h)
+same_end geometry bytes Refused Ended by other h k = absurd (empty_not_refused geometry bytes k h)
+same_end geometry bytes Refused Refused by other h k = refl
+same_end geometry bytes Refused ReadFault by other h k = absurd other
+same_end geometry bytes Refused WriteFault by other h k = absurd other
+same_end geometry bytes Refused Spent by other h k = absurd other
+
+pub one_input : (geometry : Geometry) (bytes : List ℕ) (rs ss : List Request) (e f : SessionEnd)
+    → IsByInput e → IsByInput f → IsInput geometry bytes rs e → IsInput geometry bytes ss f → (rs ≡ ss) × (e ≡ f)
+one_input geometry bytes rs ss e f by other first second =
+    let same = one_reading geometry rs ss first.tail second.tail e f by other first.served second.served
+    first.ends second.ends (sym first.whole ∙ second.whole) in (
+      same.0,
+      same_end geometry second.tail e f by other
+          (subst (λ tail. EndsInput geometry tail e) same.1 first.ends) second.ends,
+    )
+
+-- where what is left is told, the bytes that ended reading and those that are left begin no request
+malformed : (now : Option (List ℕ)) (tail rest : List ℕ) (reading : NbdEnd) → now ≡ Some rest
+    → StopsRequest now tail reading → Refused ≡ end_of reading → IsMalformed (tail ++ rest) reading
+malformed now tail rest nbd.Ended told stops e = cc
+malformed now tail rest (nbd.Cut got) told stops e =
+    let whole = ap (λ bytes. tail ++ bytes) (stops.3 rest told) ∙ append-nil tail in
+    (ap length whole ∙ stops.0, stops.1, subst IsCutRequest (sym whole) stops.2)
+malformed now tail rest (nbd.BadMagic magic) told stops e =
+    (rest, stops.1, stops.2, ap (λ bytes. bytes ++ rest) stops.0)
+malformed now tail rest (nbd.BadFlags flags) told stops e = absurd stops
+malformed now tail rest (nbd.TooBig size) told stops e = (
+  stops.0,
+  rest,
+  stops.1,
+  stops.3,
+  stops.4,
+  stops.5,
+  ap (λ bytes. bytes ++ rest) stops.2
+      ∙ append_assoc magic_bytes (fields_bytes stops.0) rest,
+)
+malformed now tail rest nbd.ReadFault told stops e = cc
+malformed now tail rest nbd.WriteFault told stops e = absurd stops
+
+refused : (geometry : Geometry) (now : Option (List ℕ)) (tail rest : List ℕ) → now ≡ Some rest
+    → StopsBy geometry now tail Refused → IsRefused geometry (tail ++ rest)
+refused geometry now tail rest told (inl h) = inl (h.0, rest, h.1, ap (λ bytes. bytes ++ rest) h.2)
+refused geometry now tail rest told (inr h) = inr (h.0, malformed now tail rest h.0 told h.1 h.2)
+
+ends_input : (geometry : Geometry) (now : Option (List ℕ)) (tail rest : List ℕ) (end : SessionEnd)
+    → now ≡ Some rest → StopsBy geometry now tail end → EndsInput geometry (tail ++ rest) end
+ends_input geometry now tail rest Disconnected told stops =
+    (stops.0, rest, stops.1, ap (λ bytes. bytes ++ rest) stops.2)
+ends_input geometry now tail rest Ended told stops = ap (λ bytes. bytes ++ rest) stops.0 ∙ stops.1 rest told
+ends_input geometry now tail rest Refused told stops = refused geometry now tail rest told stops
+ends_input geometry now tail rest ReadFault told stops = tt
+ends_input geometry now tail rest WriteFault told stops = tt
+ends_input geometry now tail rest Spent told stops = tt
+
+-- the requests that a session answered are all there are, up to what ended it
+pub all_answered : (geometry : Geometry) (before now ha hb : Option (List ℕ))
+    (did : List Entry → List Call → Type 0) (end : SessionEnd) (n : ℕ) (rest : List ℕ) → now ≡ Some rest
+    → (s : Stopped geometry before now ha hb did end n)
+    → (bytes : List ℕ) × (before ≡ Some bytes) × IsInput geometry bytes (requests_of s.transcript) end
+all_answered geometry before now ha hb did end n rest told s = (
+  _,
+  s.taken.told rest told,
+  record {
+    tail = s.tail ++ rest;
+    whole = append_assoc (asking_bytes s.transcript) s.tail rest
+        ∙ ap (λ bytes. bytes ++ (s.tail ++ rest)) (asking_bytes-in_order s.transcript);
+    served = transcript_served geometry s.transcript s.answered;
+    ends = ends_input geometry now s.tail rest end told s.stops;
+  },
+)

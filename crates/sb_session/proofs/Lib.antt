@@ -1,0 +1,5 @@
+pub mod Reading
+pub mod Joins
+pub mod Turning
+pub mod Inputs
+pub mod Opening

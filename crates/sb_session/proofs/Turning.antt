@@ -1,0 +1,141 @@
+-- What one request comes to.
+use Rattle.std.proofs.Common.{ℕ, ◌≡◌, ◌≢◌, ◌≤◌, ◌+◌, ◌∙◌, List, [], ◌∷◌, ◌++◌, Option, Result, Ok, Err, IsErrOf, true, false, length, append-nil, ap, sym, subst, refl, arith, inl, inr}
+use Rattle.sb_base.specs.declared.geometry.Geometry.{Geometry}
+use Rattle.sb_base.specs.declared.entry.Entry.{Entry}
+use Rattle.sb_world.specs.Streams.{Takes, Holds, WriteHolds}
+use Rattle.sb_world.specs.declared.link.Call.{Call}
+use Rattle.sb_nbd.specs.declared.end.NbdEnd.{NbdEnd}
+use Rattle.sb_nbd.specs.declared.end.NbdEnd.TheVariants as nbd
+use Rattle.sb_nbd.specs.Requests.{Request, IsRequest, request_bytes}
+use Rattle.sb_nbd.specs.RequestReading.{StopsRequest}
+use Rattle.sb_nbd.specs.Replies.{reply_bytes}
+use Rattle.sb_nbd.proofs.Streaming.{holds_nothing}
+use Rattle.sb_session.specs.declared.end.SessionEnd.{SessionEnd}
+use Rattle.sb_session.specs.declared.end.SessionEnd.TheVariants.{Disconnected, Ended, Refused, ReadFault, WriteFault, Spent}
+use Rattle.sb_session.specs.Goals.{is_served, is_disc}
+use Rattle.sb_session.specs.Answers.{Answers}
+use Rattle.sb_session.specs.Transcripts.{Exchange}
+use Rattle.sb_session.specs.Inputs.{IsDisc, IsUnserved}
+use Rattle.sb_session.specs.Handshakes.{end_of}
+use Rattle.sb_session.specs.Turns.{StopsBy, Serves, Stopped, TurnEnds}
+
+stops_by : (geometry : Geometry) (now : Option (List ℕ)) (bytes : List ℕ) (end : NbdEnd)
+    → StopsRequest now bytes end → StopsBy geometry now bytes (end_of end)
+stops_by geometry now bytes nbd.Ended h = h
+stops_by geometry now bytes (nbd.Cut got) h = inr (nbd.Cut got, h, refl)
+stops_by geometry now bytes (nbd.BadMagic magic) h = inr (nbd.BadMagic magic, h, refl)
+stops_by geometry now bytes (nbd.BadFlags flags) h = absurd h
+stops_by geometry now bytes (nbd.TooBig size) h = inr (nbd.TooBig size, h, refl)
+stops_by geometry now bytes nbd.ReadFault h = tt
+stops_by geometry now bytes nbd.WriteFault h = absurd h
+
+end_unspent : (end : NbdEnd) → end_of end ≢ Spent
+end_unspent nbd.Ended e = cc
+end_unspent (nbd.Cut got) e = cc
+end_unspent (nbd.BadMagic magic) e = cc
+end_unspent (nbd.BadFlags flags) e = cc
+end_unspent (nbd.TooBig size) e = cc
+end_unspent nbd.ReadFault e = cc
+end_unspent nbd.WriteFault e = cc
+
+-- no request, and bytes that end the session
+stops_at_once : (geometry : Geometry) (a b h : Option (List ℕ)) (did : List Entry → List Call → Type 0)
+    (tail : List ℕ) (end : SessionEnd)
+    → did [] [] → Takes a b tail → StopsBy geometry b tail end → end ≢ Spent → TurnEnds geometry a b h h did (Err end)
+stops_at_once geometry a b h did tail end done taken stops unspent = record {
+  n = 0;
+  within = omega arith;
+  one = λ e. absurd (omega (arith, e));
+  unspent = unspent;
+  stopped = record {
+    transcript = [];
+    count = refl;
+    answered = tt;
+    done = done;
+    tail = tail;
+    taken = taken;
+    stops = stops;
+    out = [];
+    held = holds_nothing h;
+    writes = record { missing = []; front = refl; all = λ _. refl };
+  };
+}
+
+pub reading_stops : (geometry : Geometry) (a b h : Option (List ℕ)) (did : List Entry → List Call → Type 0)
+    (end : NbdEnd)
+    → did [] [] → ((bytes : List ℕ) × Takes a b bytes × StopsRequest b bytes end)
+    → TurnEnds geometry a b h h did (Err (end_of end))
+reading_stops geometry a b h did end done read =
+    stops_at_once geometry a b h did read.0 (end_of end) done read.1 (stops_by geometry b read.0 end read.2)
+    (end_unspent end)
+
+pub disc_stops : (geometry : Geometry) (a b h : Option (List ℕ)) (did : List Entry → List Call → Type 0) (r : Request)
+    → did [] [] → IsRequest r → is_disc r.wanted ≡ true → Takes a b (request_bytes r)
+    → TurnEnds geometry a b h h did (Err Disconnected)
+disc_stops geometry a b h did r done is disc taken =
+    stops_at_once geometry a b h did (request_bytes r) Disconnected done taken
+    (r, record { request = is; disc = disc }, refl) (λ e. cc)
+
+pub unserved_stops : (geometry : Geometry) (a b h : Option (List ℕ)) (did : List Entry → List Call → Type 0)
+    (r : Request)
+    → did [] [] → IsRequest r → is_served geometry r.wanted ≡ false → is_disc r.wanted ≡ false
+    → Takes a b (request_bytes r) → TurnEnds geometry a b h h did (Err Refused)
+unserved_stops geometry a b h did r done is unserved goes_on taken =
+    stops_at_once geometry a b h did (request_bytes r) Refused done taken
+    (inl (r, record { request = is; unserved = unserved; goes_on = goes_on }, refl)) (λ e. cc)
+
+-- the exchange of a request that was done
+abbrev exchange : {did : List Entry → List Call → Type 0} {geometry : Geometry} {error : ℕ} {body : List ℕ}
+    → (r : Request) → Answers did geometry r.wanted error body → Exchange
+exchange {error} {body} r answers = record {
+  request = r;
+  entries = answers.entries;
+  calls =
+      answers.calls;
+  error = error;
+  body = body;
+}
+
+-- what one exchange did
+did_one : (did : List Entry → List Call → Type 0) (entries : List Entry) (calls : List Call)
+    → did entries calls → did (entries ++ []) (calls ++ [])
+did_one did entries calls done = subst (λ es. did es (calls ++ [])) (sym (append-nil entries))
+    (subst (did entries) (sym (append-nil calls)) done)
+
+pub serves_one : (geometry : Geometry) (a b ha hb : Option (List ℕ)) (did : List Entry → List Call → Type 0)
+    (r : Request) (error : ℕ) (body : List ℕ)
+    → IsRequest r → is_served geometry r.wanted ≡ true → Answers did geometry r.wanted error body
+    → Takes a b (request_bytes r) → Holds ha hb (reply_bytes error r.wanted.cookie body)
+    → Serves geometry a b ha hb did 1
+serves_one geometry a b ha hb did r error body is served answers taken held = record {
+  transcript = exchange r answers ∷ [];
+  count = refl;
+  answered = (record { request = is; served = served; answer = answers.answer; asks = answers.asks }, tt);
+  done = did_one did answers.entries answers.calls answers.done;
+  taken = taken;
+  held = held;
+}
+
+pub writing_stops : (geometry : Geometry) (a b ha hb : Option (List ℕ))
+    (did : List Entry → List Call → Type 0) (r : Request) (error : ℕ) (body : List ℕ) (fault : NbdEnd)
+    → IsRequest r → is_served geometry r.wanted ≡ true → Answers did geometry r.wanted error body
+    → Takes a b (request_bytes r) → WriteHolds ha hb (Err fault) (reply_bytes error r.wanted.cookie body)
+    → TurnEnds geometry a b ha hb did (Err WriteFault)
+writing_stops geometry a b ha hb did r error body fault is served answers taken held = record {
+  n = 1;
+  within = omega arith;
+  one = λ _. refl;
+  unspent = λ e. cc;
+  stopped = record {
+    transcript = exchange r answers ∷ [];
+    count = refl;
+    answered = (record { request = is; served = served; answer = answers.answer; asks = answers.asks }, tt);
+    done = did_one did answers.entries answers.calls answers.done;
+    tail = [];
+    taken = subst (Takes a b) (sym (append-nil (request_bytes r))) taken;
+    stops = refl;
+    out = held.0;
+    held = held.3;
+    writes = record { missing = held.1; front = held.2; all = λ other. absurd (other refl) };
+  };
+}

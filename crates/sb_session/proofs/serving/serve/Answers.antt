@@ -1,0 +1,20 @@
+use Rattle.std.proofs.Common.{refl, inl, inr}
+use Rattle.sb_session.proofs.Opening.{served}
+use Rattle.sb_session.proofs.serving.serve.Goals as goal
+
+pub returns-in-Ok-clause-told : goal.returns-in-Ok-clause-told
+returns-in-Ok-clause-told g c =
+    let opened = rw c.geometry.ensures at c.in-Ok.ensures.told in
+    let ends = c.transmit.ensures.told in
+    record { entries = _; calls = _; done = ends.stopped.done; course = inr (served _ _ _ _ _ _ _ _ _ _ opened ends) }
+
+pub returns-in-Err-clause-told : goal.returns-in-Err-clause-told
+returns-in-Err-clause-told g c =
+    let ended = rw c.geometry.ensures at c.in-Err.ensures.told in
+    record {
+      entries = _;
+      calls = _;
+      done = g.D.Calls.did_nothing c.args.disk.now c.args.desk.now;
+      course =
+          inl (ended, refl, refl);
+    }

@@ -1,0 +1,74 @@
+-- The whole of an input behind the handshake: the requests that are served, in order, and why they end.
+use Rattle.std.specs.Prelude.{ℕ, ◌≡◌, ◌≢◌, ◌<◌, ◌^◌, ◌⊎◌, true, false, List, [], ◌∷◌, ◌++◌, length}
+use Rattle.std.specs.Int.{w32, to_be_bytes}
+use Rattle.std.specs.List.{AllByRecursion}
+use Rattle.sb_base.specs.declared.geometry.Geometry.{Geometry}
+use Rattle.sb_nbd.specs.declared.wanted.Wanted.{Wanted}
+use Rattle.sb_nbd.specs.declared.wanted.TheConstants.{WRITE}
+use Rattle.sb_nbd.specs.declared.request.TheConstants.{REQUEST_MAGIC, MAX_PAYLOAD}
+use Rattle.sb_nbd.specs.declared.end.NbdEnd.{NbdEnd}
+use Rattle.sb_nbd.specs.declared.end.NbdEnd.TheVariants as nbd
+use Rattle.sb_nbd.specs.Requests.{magic_bytes, fields_bytes, FitsFields, Request, IsRequest, request_bytes}
+use Rattle.sb_nbd.specs.RequestReading.{IsCutRequest}
+use Rattle.sb_session.specs.declared.end.SessionEnd.{SessionEnd}
+use Rattle.sb_session.specs.declared.end.SessionEnd.TheVariants.{Disconnected, Ended, Refused, ReadFault, WriteFault, Spent}
+use Rattle.sb_session.specs.Goals.{is_served, is_disc}
+
+-- the bytes of requests, the oldest first
+abbrev pub bytes_of : List Request → List ℕ
+bytes_of [] = []
+bytes_of (r ∷ rs) = request_bytes r ++ bytes_of rs
+
+-- a request that is served
+pub record IsServed (geometry : Geometry) (r : Request) : Type 0 where
+  pub request : IsRequest r
+  pub served : is_served geometry r.wanted ≡ true
+
+-- a request that is neither served nor DISC
+pub record IsUnserved (geometry : Geometry) (r : Request) : Type 0 where
+  pub request : IsRequest r
+  pub unserved : is_served geometry r.wanted ≡ false
+  pub goes_on : is_disc r.wanted ≡ false
+
+-- a DISC
+pub record IsDisc (r : Request) : Type 0 where
+  pub request : IsRequest r
+  pub disc : is_disc r.wanted ≡ true
+
+-- all bytes that are left begin no request: they are cut, or have a wrong magic, or are those of too long a WRITE
+abbrev pub IsMalformed : List ℕ → NbdEnd → Type 0
+IsMalformed bytes (nbd.Cut got) = (length bytes ≡ got) × (0 < got) × IsCutRequest bytes
+IsMalformed bytes (nbd.BadMagic magic) = (after : List ℕ) × (magic < 2 ^ 32) × (magic ≢ REQUEST_MAGIC)
+    × (bytes ≡ to_be_bytes w32 magic ++ after)
+IsMalformed bytes (nbd.TooBig size) = (w : Wanted) × (after : List ℕ) × FitsFields w × (w.kind ≡ WRITE)
+    × (w.length ≡ size) × (MAX_PAYLOAD < size) × (bytes ≡ magic_bytes ++ (fields_bytes w ++ after))
+IsMalformed bytes end = ⊥
+
+-- a request that isn't served stands first, or nothing that is one
+abbrev pub IsRefused : Geometry → List ℕ → Type 0
+IsRefused geometry bytes =
+    ((r : Request) × (after : List ℕ) × IsUnserved geometry r × (bytes ≡ request_bytes r ++ after))
+    ⊎ ((end : NbdEnd) × IsMalformed bytes end)
+
+-- all bytes behind the requests that were served end the session so. After a fault of a stream, and after the last request
+-- that a session may answer, they may be any.
+abbrev pub EndsInput : Geometry → List ℕ → SessionEnd → Type 0
+EndsInput geometry bytes Disconnected = (r : Request) × (after : List ℕ) × IsDisc r
+    × (bytes ≡ request_bytes r ++ after)
+EndsInput geometry bytes Ended = bytes ≡ []
+EndsInput geometry bytes Refused = IsRefused geometry bytes
+EndsInput geometry bytes end = Unit {0}
+
+-- an input has these requests, the oldest first, and ends so
+pub record IsInput (geometry : Geometry) (bytes : List ℕ) (requests : List Request) (end : SessionEnd) : Type 0 where
+  pub tail : List ℕ
+  pub whole : bytes ≡ bytes_of requests ++ tail
+  pub served : AllByRecursion (IsServed geometry) requests
+  pub ends : EndsInput geometry tail end
+
+-- an end that the input alone decides
+abbrev pub IsByInput : SessionEnd → Type 0
+IsByInput Disconnected = Unit {0}
+IsByInput Ended = Unit {0}
+IsByInput Refused = Unit {0}
+IsByInput end = ⊥

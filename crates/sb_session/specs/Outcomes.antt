@@ -1,0 +1,102 @@
+-- What the entries of a call of the disk came to. Entries and calls of the link are newest first.
+use Rattle.std.specs.Prelude.{ℕ, ◌≡◌, ◌⊎◌, List, [], ◌∷◌, ◌++◌, Option, Some, None, Result, Ok, Err, false}
+use Rattle.std.specs.List.{AllByRecursion}
+use Rattle.sb_base.specs.declared.part.Part.{Part}
+use Rattle.sb_base.specs.declared.entry.Entry.{Entry}
+use Rattle.sb_base.specs.declared.entry.EntryKind.{EntryKind}
+use Rattle.sb_base.specs.declared.entry.EntryKind.TheVariants as kind
+use Rattle.sb_base.specs.declared.entry.Shown.TheVariants as shown
+use Rattle.sb_world.specs.declared.link.Call.{Call}
+use Rattle.sb_world.specs.declared.link.Call.TheVariants as call
+use Rattle.sb_world.specs.declared.link.GetReply.TheVariants as get
+use Rattle.sb_world.specs.declared.link.LinkFault.{LinkFault}
+use Rattle.sb_world.specs.declared.link.LinkFault.TheVariants as link
+use Rattle.sb_session.specs.declared.calls.CallFault.{CallFault}
+use Rattle.sb_session.specs.declared.calls.CallFault.TheVariants.{StoreFault, Memory}
+
+-- what a request wants done: a read or a write of a part, the begin of a flush, its end
+pub data Outcome : Type 0 where
+  ReadDone : (part : Part) → Outcome
+  WriteDone : (part : Part) → (bytes : List ℕ) → Outcome
+  FlushBegun : (mark : ℕ) → Outcome
+  FlushEnded : (mark : ℕ) → Outcome
+
+-- the outcome that an entry is, if any
+abbrev pub outcome_of : EntryKind → List Outcome
+outcome_of (kind.Read part bytes) = ReadDone part ∷ []
+outcome_of (kind.Write part bytes) = WriteDone part bytes ∷ []
+outcome_of (kind.FlushBegin mark) = FlushBegun mark ∷ []
+outcome_of (kind.FlushDone mark) = FlushEnded mark ∷ []
+outcome_of other = []
+
+-- the outcomes among entries
+abbrev pub outcomes_of : List Entry → List Outcome
+outcomes_of [] = []
+outcomes_of (entry ∷ entries) = outcome_of entry.kind ++ outcomes_of entries
+
+-- the bytes that an entry read
+abbrev pub bytes_of : EntryKind → List ℕ
+bytes_of (kind.Read part bytes) = bytes
+bytes_of other = []
+
+-- the bytes that entries read, joined in the order of time
+abbrev pub bytes_read : List Entry → List ℕ
+bytes_read [] = []
+bytes_read (entry ∷ entries) = bytes_read entries ++ bytes_of entry.kind
+
+-- the block that an entry asks the store for
+abbrev pub asked_of : EntryKind → List ℕ
+asked_of (kind.GetBegin block expect verify) = block ∷ []
+asked_of other = []
+
+-- the blocks that entries asked the store for
+abbrev pub blocks_asked : List Entry → List ℕ
+blocks_asked [] = []
+blocks_asked (entry ∷ entries) = asked_of entry.kind ++ blocks_asked entries
+
+-- a block that one of these parts is in
+abbrev pub IsBlockOf : List Part → ℕ → Type 0
+IsBlockOf [] block = ⊥
+IsBlockOf (part ∷ parts) block = (part.block ≡ block) ⊎ IsBlockOf parts block
+
+-- the store was asked for no other blocks than those of these parts
+pub record AsksOnly (parts : List Part) (entries : List Entry) : Type 0 where
+  pub asked : AllByRecursion (IsBlockOf parts) (blocks_asked entries)
+
+-- an entry by which a request of the link failed
+abbrev pub IsFailure : EntryKind → Type 0
+IsFailure (kind.GetEnd block shown.Failed verify taken) = Unit {0}
+IsFailure (kind.PutEnd block ok) = ok ≡ false
+IsFailure other = ⊥
+
+-- the fault that a call of the link answered, if any
+abbrev pub fault_of : Call → Option LinkFault
+fault_of (call.Get name verify (get.Fault fault)) = Some fault
+fault_of (call.Put name body meta fault) = fault
+fault_of (call.Delete name fault) = fault
+fault_of other = None
+
+-- the fault of the link that a call of the disk answers so
+abbrev pub link_fault : CallFault → LinkFault
+link_fault (StoreFault status) = link.Failed status
+link_fault Memory = link.Memory
+
+-- the newest entry is a failure, and the newest call of the link answered this fault
+abbrev pub HasCause : CallFault → List Entry → List Call → Type 0
+HasCause fault (entry ∷ entries) (call ∷ calls) = IsFailure entry.kind × (fault_of call ≡ Some (link_fault fault))
+HasCause fault entries calls = ⊥
+
+-- a call read a part and gave these bytes, or it read nothing and has a cause
+abbrev pub ReadEnds : Part → List ℕ → List Entry → List Call → Result Unit CallFault → Type 0
+ReadEnds part bytes entries calls (Ok done) =
+    (outcomes_of entries ≡ ReadDone part ∷ []) × (bytes_read entries ≡ bytes)
+ReadEnds part bytes entries calls (Err fault) = (outcomes_of entries ≡ []) × HasCause fault entries calls
+
+-- what a call that reads a part did
+pub record ReadDoes (did : List Entry → List Call → Type 0) (part : Part) (bytes : List ℕ)
+    (result : Result Unit CallFault) : Type 0 where
+  pub entries : List Entry
+  pub calls : List Call
+  pub done : did entries calls
+  pub ends : ReadEnds part bytes entries calls result
+  pub asks : AsksOnly (part ∷ []) entries

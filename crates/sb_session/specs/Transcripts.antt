@@ -1,0 +1,56 @@
+-- The requests of a session with what each did and its reply. Exchanges, entries and calls of the link are newest
+-- first.
+use Rattle.std.specs.Prelude.{ℕ, ◌≡◌, true, List, [], ◌∷◌, ◌++◌}
+use Rattle.std.specs.List.{AllByRecursion}
+use Rattle.sb_base.specs.declared.geometry.Geometry.{Geometry}
+use Rattle.sb_base.specs.declared.entry.Entry.{Entry}
+use Rattle.sb_world.specs.declared.link.Call.{Call}
+use Rattle.sb_nbd.specs.Requests.{Request, IsRequest, request_bytes}
+use Rattle.sb_nbd.specs.Replies.{reply_bytes}
+use Rattle.sb_session.specs.Outcomes.{AsksOnly}
+use Rattle.sb_session.specs.Goals.{is_served, parts_wanted, goal_of}
+use Rattle.sb_session.specs.Answers.{IsAnswer}
+
+-- a request, its own entries and calls of the link, and the error and the bytes of its reply
+pub record Exchange : Type 0 where
+  pub request : Request
+  pub entries : List Entry
+  pub calls : List Call
+  pub error : ℕ
+  pub body : List ℕ
+
+-- a request that is served, with the reply that it had to get
+pub record IsAnswered (geometry : Geometry) (x : Exchange) : Type 0 where
+  pub request : IsRequest x.request
+  pub served : is_served geometry x.request.wanted ≡ true
+  pub answer : IsAnswer (goal_of geometry x.request.wanted) x.entries x.calls x.error x.body
+  pub asks : AsksOnly (parts_wanted geometry x.request.wanted) x.entries
+
+-- the exchanges of a session
+abbrev pub IsTranscript : Geometry → List Exchange → Type 0
+IsTranscript geometry exchanges = AllByRecursion (IsAnswered geometry) exchanges
+
+-- the entries of exchanges
+abbrev pub entries_of : List Exchange → List Entry
+entries_of [] = []
+entries_of (x ∷ xs) = x.entries ++ entries_of xs
+
+-- their calls of the link
+abbrev pub calls_of : List Exchange → List Call
+calls_of [] = []
+calls_of (x ∷ xs) = x.calls ++ calls_of xs
+
+-- the bytes of their requests, in the order of time
+abbrev pub asking_bytes : List Exchange → List ℕ
+asking_bytes [] = []
+asking_bytes (x ∷ xs) = asking_bytes xs ++ request_bytes x.request
+
+-- the bytes of their replies, in the order of time
+abbrev pub replying_bytes : List Exchange → List ℕ
+replying_bytes [] = []
+replying_bytes (x ∷ xs) = replying_bytes xs ++ reply_bytes x.error x.request.wanted.cookie x.body
+
+-- their requests, in the order of time
+abbrev pub requests_of : List Exchange → List Request
+requests_of [] = []
+requests_of (x ∷ xs) = requests_of xs ++ x.request ∷ []

@@ -1,0 +1,53 @@
+//! What a session asks of a disk.
+
+ghost use Rattle.std.specs.Prelude.{◌≡◌, List, [], ◌++◌, length};
+ghost use Rattle.sb_base.specs.declared.entry.Entry.{Entry};
+ghost use Rattle.sb_base.specs.declared.geometry.Geometry.{Geometry};
+ghost use Rattle.sb_base.specs.Ranges.{IsPart};
+ghost use Rattle.sb_world.specs.declared.link.Call.{Call};
+ghost use Rattle.sb_session.specs.Outcomes.{ReadDoes};
+
+use sb_base::{Geometry, Part};
+
+/// Why a call failed.
+#[derive(Drop, Clone, Copy, PartialEq, Eq, Debug)]
+pub enum CallFault {
+    /// The link answered this status. The reply's error is EIO.
+    StoreFault { status: u16 },
+    /// The link had no memory. The reply's error is ENOMEM.
+    Memory,
+}
+
+/// The calls of a disk that are made with a desk, which has what one thread works with.
+pub trait Calls<K> {
+    /// Its size.
+    ghost geometry: { Self → Geometry };
+
+    /// A call may be made.
+    ghost ready: { Self → K → Type 0 };
+
+    /// What happened from one state of disk and desk to another: these entries and these calls of the link, the newest first.
+    ghost did: { Self → K → Self → K → List Entry → List Call → Type 0 };
+
+    /// Nothing happens from a state to itself.
+    ghost did_nothing: { (disk : Self) (desk : K) → did disk desk disk desk [] [] };
+
+    /// What happened to one state and from there on happened in all.
+    ghost did_both: { (d₁ : Self) (k₁ : K) (d₂ : Self) (k₂ : K) (d₃ : Self) (k₃ : K) (xs ys : List Entry)
+        (us vs : List Call) → did d₁ k₁ d₂ k₂ xs us → did d₂ k₂ d₃ k₃ ys vs
+        → did d₁ k₁ d₃ k₃ (ys ++ xs) (vs ++ us) };
+
+    /// Its size.
+    fn geometry(&self) -> Geometry
+        ensures { result ≡ geometry self.now };
+
+    /// Reads a part into a buffer. After a fault the buffer is unspecified.
+    fn read(&mut self, desk: &mut K, part: Part, out: &mut [u8]) -> Result<(), CallFault>
+        requires ready { ready self.old desk.old }
+        requires part { IsPart (geometry self.old) part }
+        requires out { length out.old ≡ part.length }
+        ensures ready { ready self.new desk.new }
+        ensures did { ReadDoes (did self.old desk.old self.new desk.new) part out.new result }
+        ensures geometry { geometry self.new ≡ geometry self.old }
+        ensures length { length out.new ≡ length out.old };
+}

@@ -1,0 +1,21 @@
+//! A session over bytes: the greeting, the handshake and the requests of one client, over any source, any sink and any disk.
+//!
+//! `serve` reads one message after the other, does what it asks for part by part, and writes its reply. Today it serves
+//! EXPORT_NAME with the empty name, READ and DISC; any other message ends the session as refused.
+#![tactic(auto)]
+
+mod answer;
+mod calls;
+mod end;
+mod laws;
+mod serving;
+mod transmission;
+
+pub use calls::{CallFault, Calls};
+pub use end::SessionEnd;
+pub use laws::one_input;
+pub use serving::serve;
+pub use transmission::MAX_ANSWERS;
+
+#[cfg(test)]
+mod tests;
