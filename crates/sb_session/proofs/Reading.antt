@@ -10,8 +10,8 @@ use Rattle.sb_base.specs.declared.part.Part.{Part}
 use Rattle.sb_base.specs.declared.entry.Entry.{Entry}
 use Rattle.sb_world.specs.declared.link.Call.{Call}
 use Rattle.sb_nbd.specs.declared.wanted.Wanted.{Wanted}
-use Rattle.sb_session.specs.declared.calls.CallFault.{CallFault}
-use Rattle.sb_session.specs.Outcomes.{Outcome, ReadDone, outcome_of, outcomes_of, bytes_of, bytes_read, asked_of, blocks_asked, IsBlockOf, AsksOnly, HasCause, ReadDoes}
+use Rattle.sb_crew.specs.declared.calls.CallFault.{CallFault}
+use Rattle.sb_crew.specs.Outcomes.{Outcome, ReadDone, outcome_of, outcomes_of, bytes_of, bytes_read, asked_of, blocks_asked, IsBlockOf, AsksOnly, HasCause, ReadDoes}
 use Rattle.sb_session.specs.Goals.{parts_wanted, reads_of}
 use Rattle.sb_session.specs.Answers.{ReadsRange, Answers, error_of}
 

@@ -5,9 +5,9 @@ use Rattle.sb_base.specs.declared.part.Part.{Part}
 use Rattle.sb_base.specs.declared.entry.Entry.{Entry}
 use Rattle.sb_world.specs.declared.link.Call.{Call}
 use Rattle.sb_nbd.specs.declared.wanted.Wanted.{Wanted}
-use Rattle.sb_session.specs.declared.calls.CallFault.{CallFault}
-use Rattle.sb_session.specs.declared.calls.CallFault.TheVariants.{StoreFault, Memory}
-use Rattle.sb_session.specs.Outcomes.{Outcome, outcomes_of, bytes_read, AsksOnly, HasCause}
+use Rattle.sb_crew.specs.declared.calls.CallFault.{CallFault}
+use Rattle.sb_crew.specs.declared.calls.CallFault.TheVariants.{StoreFault, Memory}
+use Rattle.sb_crew.specs.Outcomes.{Outcome, outcomes_of, bytes_read, AsksOnly, HasCause}
 use Rattle.sb_session.specs.Goals.{parts_wanted, reads_of, goal_of}
 
 -- a proper front of a goal was met, and then a call of the disk failed so

@@ -6,7 +6,7 @@ use Rattle.sb_base.specs.Ranges.{parts_of}
 use Rattle.sb_nbd.specs.declared.wanted.Wanted.{Wanted}
 use Rattle.sb_nbd.specs.declared.wanted.TheConstants.{READ, DISC}
 use Rattle.sb_nbd.specs.declared.request.TheConstants.{MAX_PAYLOAD}
-use Rattle.sb_session.specs.Outcomes.{Outcome, ReadDone}
+use Rattle.sb_crew.specs.Outcomes.{Outcome, ReadDone}
 
 -- a READ without flags, of at most 32 MiB, of bytes that the disk has
 abbrev pub is_served : Geometry → Wanted → Bool

@@ -1,4 +1,3 @@
-pub mod Outcomes
 pub mod Goals
 pub mod Answers
 pub mod Transcripts

@@ -7,7 +7,7 @@ use Rattle.sb_base.specs.declared.entry.Entry.{Entry}
 use Rattle.sb_world.specs.declared.link.Call.{Call}
 use Rattle.sb_nbd.specs.Requests.{Request, IsRequest, request_bytes}
 use Rattle.sb_nbd.specs.Replies.{reply_bytes}
-use Rattle.sb_session.specs.Outcomes.{AsksOnly}
+use Rattle.sb_crew.specs.Outcomes.{AsksOnly}
 use Rattle.sb_session.specs.Goals.{is_served, parts_wanted, goal_of}
 use Rattle.sb_session.specs.Answers.{IsAnswer}
 

@@ -7,8 +7,8 @@ ghost use Rattle.sb_base.specs.Ranges.{IsRange, parts_of};
 ghost use Rattle.sb_session.specs.Goals.{is_served};
 ghost use Rattle.sb_session.specs.Answers.{ReadsRange, Answers, error_of};
 
-use crate::calls::{CallFault, Calls};
 use sb_base::{Geometry, parts};
+use sb_crew::{CallFault, Calls};
 use sb_nbd::{MAX_PAYLOAD, READ, Wanted};
 
 /// What a reply carries: an error number, 0 for none, and so many bytes of the buffer.

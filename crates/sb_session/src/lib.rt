@@ -4,14 +4,16 @@
 //! EXPORT_NAME with the empty name, READ and DISC; any other message ends the session as refused.
 #![tactic(auto)]
 
+mod alone;
 mod answer;
-mod calls;
+mod buffer;
 mod end;
 mod laws;
 mod serving;
 mod transmission;
 
-pub use calls::{CallFault, Calls};
+pub use alone::{TRANSMISSION_FLAGS, serve_alone};
+pub use buffer::Buffer;
 pub use end::SessionEnd;
 pub use laws::one_input;
 pub use serving::serve;

@@ -6,10 +6,10 @@ ghost use Rattle.sb_world.specs.Told.{CountsFaults};
 ghost use Rattle.sb_session.specs.Handshakes.{OpeningEnds};
 ghost use Rattle.sb_session.specs.Sessions.{SessionTold};
 
-use crate::calls::Calls;
 use crate::end::SessionEnd;
 use crate::transmission::{session_end, transmit};
 use sb_base::Geometry;
+use sb_crew::Calls;
 use sb_nbd::{EXPORT_NAME, MAX_PAYLOAD, read_flags, read_option, write_export, write_greeting};
 use sb_world::{Sink, Source};
 

@@ -3,7 +3,7 @@ use Rattle.sb_base.specs.declared.entry.EntryKind.TheVariants as kind
 use Rattle.sb_base.specs.declared.entry.Shown.TheVariants as shown
 use Rattle.sb_world.specs.declared.link.Call.TheVariants as call
 use Rattle.sb_world.specs.declared.link.GetReply.TheVariants as get
-use Rattle.sb_session.specs.Outcomes.{link_fault}
+use Rattle.sb_crew.specs.Outcomes.{link_fault}
 use Rattle.sb_session.proofs.tests.BytesCallsUnit.read.Goals as goal
 
 pub returns-in-None-clause-did : goal.returns-in-None-clause-did

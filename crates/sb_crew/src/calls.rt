@@ -5,7 +5,7 @@ ghost use Rattle.sb_base.specs.declared.entry.Entry.{Entry};
 ghost use Rattle.sb_base.specs.declared.geometry.Geometry.{Geometry};
 ghost use Rattle.sb_base.specs.Ranges.{IsPart};
 ghost use Rattle.sb_world.specs.declared.link.Call.{Call};
-ghost use Rattle.sb_session.specs.Outcomes.{ReadDoes};
+ghost use Rattle.sb_crew.specs.Outcomes.{ReadDoes};
 
 use sb_base::{Geometry, Part};
 

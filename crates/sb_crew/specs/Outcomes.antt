@@ -11,8 +11,8 @@ use Rattle.sb_world.specs.declared.link.Call.TheVariants as call
 use Rattle.sb_world.specs.declared.link.GetReply.TheVariants as get
 use Rattle.sb_world.specs.declared.link.LinkFault.{LinkFault}
 use Rattle.sb_world.specs.declared.link.LinkFault.TheVariants as link
-use Rattle.sb_session.specs.declared.calls.CallFault.{CallFault}
-use Rattle.sb_session.specs.declared.calls.CallFault.TheVariants.{StoreFault, Memory}
+use Rattle.sb_crew.specs.declared.calls.CallFault.{CallFault}
+use Rattle.sb_crew.specs.declared.calls.CallFault.TheVariants.{StoreFault, Memory}
 
 -- what a request wants done: a read or a write of a part, the begin of a flush, its end
 pub data Outcome : Type 0 where

@@ -1,0 +1,73 @@
+#!/usr/bin/env python3
+"""Runs sessions of the built program and compares bytes, statuses and peak memory. Usage: sessions.py PROGRAM"""
+import resource, subprocess, sys
+
+program = sys.argv[1]
+GREETING = bytes.fromhex("4e42444d41474943 49484156454f5054 0003")
+EXPORT_NAME = bytes.fromhex("49484156454f5054 00000001 00000000")
+NO_ZEROES = bytes.fromhex("00000003")
+DISC = bytes.fromhex("25609513 0000 0002 0000000000000000 0000000000000000 00000000")
+
+
+def read(cookie, offset, length):
+    return bytes.fromhex("25609513 0000 0000") + cookie.to_bytes(8, "big") + offset.to_bytes(8, "big") + length.to_bytes(4, "big")
+
+
+def reply(cookie, body):
+    return bytes.fromhex("67446698 00000000") + cookie.to_bytes(8, "big") + body
+
+
+def run(words, given):
+    done = subprocess.run([program, *words], input=given, capture_output=True, timeout=60)
+    return done.returncode, done.stdout, done.stderr
+
+
+def export(size):
+    return GREETING + size.to_bytes(8, "big") + bytes.fromhex("0005")
+
+
+failed = 0
+
+
+def expect(name, found, wanted):
+    global failed
+    if found != wanted:
+        failed += 1
+        print(f"{name}: found {found!r}, wanted {wanted!r}")
+
+
+SMALL = ["--stdio", "--size=64k", "memory"]
+OPEN = NO_ZEROES + EXPORT_NAME
+
+expect("a disconnected session", run(SMALL, OPEN + DISC), (0, export(65536), b""))
+expect("the end between messages", run(SMALL, OPEN), (0, export(65536), b""))
+expect("the client wants zeroes", run(SMALL, bytes(4) + EXPORT_NAME + DISC), (0, export(65536) + bytes(124), b""))
+expect("reads", run(SMALL, OPEN + read(1, 0, 512) + read(2, 4095, 2) + read(3, 65535, 1) + read(4, 65536, 0) + DISC),
+       (0, export(65536) + reply(1, bytes(512)) + reply(2, bytes(2)) + reply(3, bytes(1)) + reply(4, b""), b""))
+refused = b"s3backer: session: refused\n"
+expect("a read past the end", run(SMALL, OPEN + read(1, 65536, 1) + DISC), (7, export(65536), refused))
+expect("a wrong magic", run(SMALL, OPEN + bytes.fromhex("25609514") + bytes(24)), (7, export(65536), refused))
+expect("a cut request", run(SMALL, OPEN + read(1, 0, 512)[:10]), (7, export(65536), refused))
+expect("unknown flags", run(SMALL, bytes.fromhex("00000004")), (7, GREETING, refused))
+expect("no size", run(["--stdio", "--size=64q", "memory"], b""), (2, b"", b"s3backer: usage: --size: not a size: 64q\n"))
+expect("an empty disk", run(["--stdio", "--size=0", "memory"], b"")[0], 2)
+expect("no words", run([], b"")[0], 2)
+
+
+def peak(size):
+    before = resource.getrusage(resource.RUSAGE_CHILDREN).ru_maxrss
+    child = subprocess.Popen(["/usr/bin/env", "python3", "-c",
+                              "import resource, subprocess, sys; subprocess.run(sys.argv[1:], input=sys.stdin.buffer.read(), stdout=subprocess.DEVNULL); "
+                              "print(resource.getrusage(resource.RUSAGE_CHILDREN).ru_maxrss)",
+                              program, "--stdio", f"--size={size}", "memory"], stdin=subprocess.PIPE, stdout=subprocess.PIPE)
+    out, _ = child.communicate(OPEN + read(1, 0, 512) + DISC, timeout=60)
+    return int(out)
+
+
+small, large = peak("64k"), peak("1t")
+if abs(large - small) >= 1024:
+    failed += 1
+    print(f"peak memory: {small} KiB for 64k, {large} KiB for 1t")
+
+print(f"sessions: {'ok' if failed == 0 else f'{failed} failed'}")
+sys.exit(1 if failed else 0)

@@ -1,0 +1,17 @@
+use Rattle.std.proofs.Common.{◌∙◌, inr}
+use Rattle.s3backer.proofs.top.run.Goals as goal
+
+pub returns-in-Ok-bench : goal.returns-in-Ok-bench
+returns-in-Ok-bench g c =
+    inr (inr (inr (record {
+      geometry = c.in-Ok.geometry;
+      taken = c.in-Ok.ensures.plan;
+      runs = record {
+        before = c.in-Ok-bench.bench;
+        after = c.serve_bench-status.result.2;
+        next_is = c.in-Ok-bench.ensures.next;
+        last_is = c.shut.ensures.last;
+        bench = c.serve_bench-status.ensures;
+      };
+      quiet = c.shut.ensures.frame ∙ c.bench.ensures.frame.1;
+    })))

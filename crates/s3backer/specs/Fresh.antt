@@ -1,0 +1,15 @@
+-- A core with no event behind it.
+use Rattle.std.specs.Prelude.{ℕ, ◌≡◌, []}
+use Rattle.sb_base.specs.declared.geometry.Geometry.{Geometry}
+use Rattle.sb_core.specs.declared.machine.Core.{Core}
+use Rattle.sb_core.specs.Represents.{Represents, geometry_of, settings_of, reading_of}
+use Rattle.sb_core.specs.Progress.{IsIdle}
+use Rattle.s3backer.specs.declared.settings.TheConstants.{SETTINGS}
+
+-- a core of this geometry that nothing was asked of
+pub record IsFresh (geometry : Geometry) (core : Core) : Type 0 where
+  pub geometry_is : geometry_of core ≡ geometry
+  pub settings_is : settings_of core ≡ SETTINGS
+  pub represents : Represents core []
+  pub idle : IsIdle core
+  pub reading : reading_of core ≡ 0

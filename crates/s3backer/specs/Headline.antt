@@ -1,0 +1,168 @@
+-- What a run of the program promises, of one list of entries and one list of calls. Lists are newest first.
+use Rattle.std.specs.Prelude.{ℕ, ◌≡◌, ◌≢◌, ◌≤◌, ◌⊎◌, ◌+◌, List, [], ◌∷◌, ◌++◌, Option, Some, None, IfSome, codes, map}
+use Rattle.sb_base.specs.declared.geometry.Geometry.{Geometry}
+use Rattle.sb_base.specs.declared.entry.Entry.{Entry}
+use Rattle.sb_world.specs.Told.{Gains, Rose}
+use Rattle.sb_world.specs.Streams.{Holds}
+use Rattle.sb_world.specs.Benches.{BenchParts, with_links}
+use Rattle.sb_world.specs.declared.clock.Tick.{Tick}
+use Rattle.sb_world.specs.declared.link.Call.{Call}
+use Rattle.sb_history.specs.Contents.{Start, FillBlocks}
+use Rattle.sb_history.specs.Values.{IsLegal}
+use Rattle.sb_history.specs.Visibility.{Delays, IsStaleWithin}
+use Rattle.sb_history.specs.Passes.{IsOfPass}
+use Rattle.sb_history.specs.Requests.{RequestLog}
+use Rattle.sb_history.specs.ClockTrace.{ClockTrace}
+use Rattle.sb_history.specs.AccessRules.{FollowsAccessRules}
+use Rattle.sb_history.specs.CachePolicy.{FollowsCachePolicy}
+use Rattle.sb_core.specs.Represents.{nothing_found}
+use Rattle.sb_crew.specs.Names.{block_name}
+use Rattle.sb_crew.specs.Runs.{only_caller, sizes_of}
+use Rattle.sb_session.specs.declared.end.SessionEnd.{SessionEnd}
+use Rattle.sb_session.specs.declared.end.SessionEnd.TheVariants as end
+use Rattle.sb_session.specs.declared.alone.TheConstants.{TRANSMISSION_FLAGS}
+use Rattle.sb_session.specs.Handshakes.{Unopened}
+use Rattle.sb_session.specs.Sessions.{Served}
+use Rattle.s3backer.specs.declared.settings.TheConstants.{SETTINGS}
+use Rattle.s3backer.specs.Words.{IsTaken, IsRefused}
+use Rattle.s3backer.specs.declared.words.Usage.{Usage}
+
+-- a store that shows the latest versions, and keeps the order of puts
+abbrev pub at_once : Delays
+at_once = record { order = 0; show = 0 }
+
+-- the status of a session's end, and the line that tells it
+abbrev pub session_status : SessionEnd → ℕ
+session_status end.Disconnected = 0
+session_status end.Ended = 0
+session_status other = 7
+
+abbrev pub session_line : SessionEnd → Option (List ℕ)
+session_line end.Disconnected = None
+session_line end.Ended = None
+session_line end.Refused = Some (codes "s3backer: session: refused\n")
+session_line end.ReadFault = Some (codes "s3backer: session: read fault\n")
+session_line end.WriteFault = Some (codes "s3backer: session: write fault\n")
+session_line end.Spent = Some (codes "s3backer: session: spent\n")
+
+-- the error sink gained a line, or a front of it where its count rose
+pub record Complains (held held' : Option (List ℕ)) (faults faults' : ℕ) (line : List ℕ) : Type 0 where
+  pub front : List ℕ
+  pub after : List ℕ
+  pub whole : line ≡ front ++ after
+  pub told : Holds held held' front
+  pub all : (after ≡ []) ⊎ Rose faults faults'
+
+-- the line of an end, if it has one
+abbrev pub ComplainsOf : Option (List ℕ) → Option (List ℕ) → Option (List ℕ) → ℕ → ℕ → Type 0
+ComplainsOf None held held' faults faults' = held' ≡ held
+ComplainsOf (Some line) held held' faults faults' = Complains held held' faults faults' line
+
+-- a disk's history: what its tape, the link's log and the clock gained, the rules that it follows, and that each read is that
+-- of a register over every store that shows the latest versions
+pub record IsHistory (geometry : Geometry) (told told' : Option (List Entry)) (log log' : Option (List Call)) (ticks ticks' : Option (List Tick)) (entries : List Entry) (calls : List Call) : Type 0 where
+  pub of_pass : IsOfPass 1 entries
+  pub tape : Gains told told' entries
+  pub asked : Gains log log' calls
+  pub requests : RequestLog block_name (Some (sizes_of geometry)) entries calls
+  pub readings : List Tick
+  pub clock : Gains ticks ticks' readings
+  pub trace : ClockTrace geometry SETTINGS only_caller [] entries None readings
+  pub rules : FollowsAccessRules geometry SETTINGS nothing_found entries
+  pub policy : FollowsCachePolicy geometry SETTINGS nothing_found entries
+  pub legal : (start : Start) → FillBlocks geometry.block_size start → IsStaleWithin geometry.block_size start at_once entries → IsLegal start entries
+
+module _ {L C R S : Type 0} (log : L → Option (List Call)) (ticks : C → Option (List Tick)) (left : R → Option (List ℕ)) (read_faults : R → ℕ) (held : S → Option (List ℕ)) (write_faults : S → ℕ) where
+  -- a session was served: its history, its course over the bytes, its end with status and line
+  pub record ServesSession (geometry : Geometry) (link link' : L) (clock clock' : C) (input input' : R) (output output' errors errors' : S) (told told' : Option (List Entry)) (status : ℕ) : Type 0 where
+    pub entries : List Entry
+    pub calls : List Call
+    pub history : IsHistory geometry told told' (log link) (log link') (ticks clock) (ticks clock') entries calls
+    pub ended : SessionEnd
+    pub course :
+        (Unopened geometry TRANSMISSION_FLAGS (left input) (left input') (held output) (held output') ended × (entries ≡ []) × (calls ≡ []))
+        ⊎ Served geometry TRANSMISSION_FLAGS (left input) (left input') (held output) (held output') ended entries calls
+    pub read_cause : ended ≡ end.ReadFault → Rose (read_faults input) (read_faults input')
+    pub write_cause : ended ≡ end.WriteFault → Rose (write_faults output) (write_faults output')
+    pub status_is : status ≡ session_status ended
+    pub complains : ComplainsOf (session_line ended) (held errors) (held errors') (write_faults errors) (write_faults errors')
+
+  -- want of memory came before the session: nothing was asked, read or written but the line that tells it
+  pub record LacksMemory (link link' : L) (clock clock' : C) (input input' : R) (output output' errors errors' : S) (told told' : Option (List Entry)) (status : ℕ) : Type 0 where
+    pub status_is : status ≡ 12
+    pub link_stays : link' ≡ link
+    pub clock_stays : clock' ≡ clock
+    pub input_stays : input' ≡ input
+    pub output_stays : output' ≡ output
+    pub tape_stays : told' ≡ told
+    pub complains : Complains (held errors) (held errors') (write_faults errors) (write_faults errors') (codes "s3backer: out of memory\n")
+
+  -- what a run did with what its bench had
+  abbrev pub Serves : Geometry → L → L → C → C → R → R → S → S → S → S → Option (List Entry) → Option (List Entry) → ℕ → Type 0
+  Serves geometry link link' clock clock' input input' output output' errors errors' told told' status =
+      ServesSession geometry link link' clock clock' input input' output output' errors errors' told told' status
+      ⊎ LacksMemory link link' clock clock' input input' output output' errors errors' told told' status
+
+  -- a run on a bench of one link
+  pub record ServesBench (geometry : Geometry) (before after : BenchParts L C R S) (told told' : Option (List Entry)) (status : ℕ) : Type 0 where
+    pub link : L
+    pub link' : L
+    pub one : before.links ≡ link ∷ []
+    pub one' : after.links ≡ link' ∷ []
+    pub serves : Serves geometry link link' before.clock after.clock before.input after.input before.output after.output before.errors after.errors told told' status
+
+  -- a run on the world's next bench, which was shut then
+  pub record RunsBench (geometry : Geometry) (next last : Option (BenchParts L C R S)) (told told' : Option (List Entry)) (status : ℕ) : Type 0 where
+    pub before : BenchParts L C R S
+    pub after : BenchParts L C R S
+    pub next_is : IfSome next (λ parts. before ≡ with_links 1 parts)
+    pub last_is : IfSome last (λ parts. parts ≡ after)
+    pub bench : ServesBench geometry before after told told' status
+
+-- a line that begins so was said
+pub record SaysUsage (said said' : Option (List (List ℕ))) : Type 0 where
+  pub wording : List ℕ
+  pub line : Gains said said' ((codes "s3backer: usage: " ++ wording) ∷ [])
+
+-- a line that says that words are not taken
+abbrev pub IsUsageLine : List ℕ → Type 0
+IsUsageLine line = (wording : List ℕ) × (line ≡ codes "s3backer: usage: " ++ wording)
+
+-- the words were refused: nothing but a line about them
+pub record RefusesWords (words : List (List ℕ)) (told told' : Option (List Entry)) (said said' : Option (List (List ℕ))) (status : ℕ) : Type 0 where
+  pub usage : Usage
+  pub refused : IsRefused words usage
+  pub status_is : status ≡ 2
+  pub tape_stays : told' ≡ told
+  pub says : SaysUsage said said'
+
+-- the words were taken, and the world had no bench: its count of faults rose
+pub record HasNoBench (words : List (List ℕ)) (faults faults' : ℕ) (told told' : Option (List Entry)) (said said' : Option (List (List ℕ))) (status : ℕ) : Type 0 where
+  pub geometry : Geometry
+  pub taken : IsTaken words geometry
+  pub cause : Rose faults faults'
+  pub status_is : status ≡ 3
+  pub tape_stays : told' ≡ told
+  pub says : Gains said said' (codes "s3backer: cannot reach the store\n" ∷ [])
+
+-- want of memory came before there was a bench
+pub record LacksMemoryEarly (told told' : Option (List Entry)) (said said' : Option (List (List ℕ))) (status : ℕ) : Type 0 where
+  pub status_is : status ≡ 12
+  pub tape_stays : told' ≡ told
+  pub says : Gains said said' (codes "s3backer: out of memory\n" ∷ [])
+
+module _ {L C R S : Type 0} (log : L → Option (List Call)) (ticks : C → Option (List Tick)) (left : R → Option (List ℕ)) (read_faults : R → ℕ) (held : S → Option (List ℕ)) (write_faults : S → ℕ) where
+  -- the words were taken, and the world's next bench served
+  pub record ServesWords (words : List (List ℕ)) (next last' : Option (BenchParts L C R S)) (told told' : Option (List Entry)) (said said' : Option (List (List ℕ))) (status : ℕ) : Type 0 where
+    pub geometry : Geometry
+    pub taken : IsTaken words geometry
+    pub runs : RunsBench log ticks left read_faults held write_faults geometry next last' told told' status
+    pub quiet : said' ≡ said
+
+  -- how a run ends
+  abbrev pub RunEnds : List (List ℕ) → ℕ → ℕ → Option (BenchParts L C R S) → Option (BenchParts L C R S) → Option (List Entry) → Option (List Entry) → Option (List (List ℕ)) → Option (List (List ℕ)) → ℕ → Type 0
+  RunEnds words faults faults' next last' told told' said said' status =
+      RefusesWords words told told' said said' status
+      ⊎ (HasNoBench words faults faults' told told' said said' status
+      ⊎ (LacksMemoryEarly told told' said said' status
+      ⊎ ServesWords words next last' told told' said said' status))

@@ -1,0 +1,166 @@
+//! Sessions of the program in a world in memory. The bytes are those of the NBD protocol document.
+
+ghost use Rattle.std.specs.Prelude.{◌≢◌};
+
+use crate::rehearsal::{Rehearsal, rehearse};
+use crate::settings::SETTINGS;
+use sb_base::{Geometry, Part, Text};
+use sb_core::Core;
+use sb_crew::{Alone, Desk};
+use sb_fakes::{Failing, HandClock, MemoryConn, PlainStore};
+use sb_world::{Link, NoTape};
+use std::alloc::{AllocError, Global};
+use std::test::Fail;
+
+const OPENING: &[u8] = b"\x00\x00\x00\x03IHAVEOPT\x00\x00\x00\x01\x00\x00\x00\x00";
+
+const HANDSHAKE: &[u8] = b"NBDMAGICIHAVEOPT\x00\x03\x00\x00\x00\x00\x00\x01\x00\x00\x00\x05";
+
+const DISC: &[u8] =
+    b"\x25\x60\x95\x13\x00\x00\x00\x02\x00\x00\x00\x00\x00\x00\x00\x00\x00\x00\x00\x00\x00\x00\x00\x00\x00\x00\x00\x00";
+
+const READ_512: &[u8] =
+    b"\x25\x60\x95\x13\x00\x00\x00\x00\x00\x00\x00\x00\x00\x00\x00\x01\x00\x00\x00\x00\x00\x00\x00\x00\x00\x00\x02\x00";
+
+const EIO_1: &[u8] = b"\x67\x44\x66\x98\x00\x00\x00\x05\x00\x00\x00\x00\x00\x00\x00\x01";
+
+const OK_1: &[u8] = b"\x67\x44\x66\x98\x00\x00\x00\x00\x00\x00\x00\x00\x00\x00\x00\x01";
+
+/// The pieces, one after the other.
+fn joined(alloc: Global, pieces: &[&[u8]]) -> Result<Text, AllocError> {
+    let mut bytes = Vec::new(alloc);
+    for piece in pieces {
+        bytes.extend_from_slice(piece)?;
+    }
+    Ok(Text::from_vec(bytes))
+}
+
+/// A session of a disk of 64k over a link, whose client sends these pieces and is read in pieces of so many bytes.
+fn session<L: Link + Drop>(
+    alloc: Global,
+    link: L,
+    pieces: &[&[u8]],
+    piece: u32,
+) -> Result<Rehearsal<L>, AllocError>
+    requires { piece ≢ 0 }
+{
+    let mut words = Vec::new(alloc);
+    for word in ["--stdio", "--size=64k", "memory"] {
+        words.push(String::from_str(alloc, word)?)?;
+    }
+    rehearse(
+        alloc,
+        words.as_slice(),
+        link,
+        HandClock::new(alloc, 1000, 0, false),
+        MemoryConn::source(joined(alloc, pieces)?, piece, Vec::new(alloc)),
+        MemoryConn::sink(alloc, Vec::new(alloc)),
+        MemoryConn::sink(alloc, Vec::new(alloc)),
+    )
+}
+
+/// What a run wrote.
+fn output<L>(done: &Rehearsal<L>) -> &[u8] {
+    match &done.world.last {
+        Some(bench) => bench.output.bytes(),
+        None => &[],
+    }
+}
+
+/// What a run said on its error sink.
+fn errors<L>(done: &Rehearsal<L>) -> &[u8] {
+    match &done.world.last {
+        Some(bench) => bench.errors.bytes(),
+        None => &[],
+    }
+}
+
+#[test]
+fn a_session_ends_at_disc(rt: HostRuntime) -> Result<(), Fail> {
+    let store = PlainStore::new(rt.alloc());
+    let done = session(rt.alloc(), store, &[OPENING, DISC], 4096)?;
+    assert_eq!(rt; done.status, 0);
+    assert_eq!(rt; output(&done), HANDSHAKE);
+    assert_eq!(rt; errors(&done).len(), 0);
+    Ok(())
+}
+
+#[test]
+fn an_input_in_single_bytes_gets_the_same_replies(rt: HostRuntime) -> Result<(), Fail> {
+    let wanted = joined(rt.alloc(), &[HANDSHAKE, OK_1, &[0; 512]])?;
+    for piece in [1, 7, 4096] {
+        let store = PlainStore::new(rt.alloc());
+        let done = session(rt.alloc(), store, &[OPENING, READ_512, DISC], piece)?;
+        assert_eq!(rt; done.status, 0);
+        assert_eq!(rt; output(&done), wanted.bytes());
+    }
+    Ok(())
+}
+
+#[test]
+fn a_failed_get_is_eio_and_the_session_goes_on(rt: HostRuntime) -> Result<(), Fail> {
+    let fails = Vec::from_array(rt.alloc(), [1])?;
+    let link = Failing::new(rt.alloc(), PlainStore::new(rt.alloc()), fails);
+    let done = session(rt.alloc(), link, &[OPENING, READ_512, READ_512, DISC], 4096)?;
+    let wanted = joined(rt.alloc(), &[HANDSHAKE, EIO_1, OK_1, &[0; 512]])?;
+    assert_eq!(rt; done.status, 0);
+    assert_eq!(rt; output(&done), wanted.bytes());
+    Ok(())
+}
+
+#[test]
+fn a_cut_request_is_refused(rt: HostRuntime) -> Result<(), Fail> {
+    let store = PlainStore::new(rt.alloc());
+    let done = session(rt.alloc(), store, &[OPENING, &READ_512[..10]], 4096)?;
+    assert_eq!(rt; done.status, 7);
+    assert_eq!(rt; output(&done), HANDSHAKE);
+    assert_eq!(rt; errors(&done), b"s3backer: session: refused\n".as_slice());
+    Ok(())
+}
+
+#[test]
+fn words_that_are_not_taken_are_said(rt: HostRuntime) -> Result<(), Fail> {
+    let alloc = rt.alloc();
+    let done = rehearse(
+        alloc,
+        &[],
+        PlainStore::new(alloc),
+        HandClock::new(alloc, 0, 0, false),
+        MemoryConn::source(joined(alloc, &[])?, 1, Vec::new(alloc)),
+        MemoryConn::sink(alloc, Vec::new(alloc)),
+        MemoryConn::sink(alloc, Vec::new(alloc)),
+    )?;
+    assert_eq!(rt; done.status, 2);
+    assert_eq!(rt; done.world.said.len(), 1);
+    assert_eq!(rt;
+        done.world.said[0].bytes(),
+        b"s3backer: usage: s3backer --stdio --size=SIZE memory\n".as_slice()
+    );
+    Ok(())
+}
+
+#[test]
+fn a_block_of_16_mib_is_read(rt: HostRuntime) -> Result<(), Fail> {
+    let alloc = rt.alloc();
+    let geometry = Geometry::make(33_554_432, 16_777_216)?;
+    let mut desk = match Desk::new(
+        alloc,
+        PlainStore::new(alloc),
+        HandClock::new(alloc, 0, 0, false),
+        &geometry,
+    ) {
+        Ok(desk) => desk,
+        Err(_) => return Err(Fail::from("no memory")),
+    };
+    let mut disk = Alone::new(Core::new(alloc, geometry, SETTINGS)?, NoTape);
+    let mut out = [1];
+    let part = Part {
+        block: 1,
+        offset: 16_777_215,
+        length: 1,
+    };
+    assert!(rt; disk.read_part(&mut desk, part, &mut out).is_ok());
+    assert_eq!(rt; out, [0]);
+    let (_core, _tape) = disk.finish();
+    Ok(())
+}

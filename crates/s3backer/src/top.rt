@@ -1,0 +1,258 @@
+//! The top call.
+
+ghost use Rattle.std.specs.Prelude.{◌≡◌, ◌≤◌, ◌∷◌, [], ◌⊎◌, IfSome, IfOk, codes, length, List, map, string_bytes};
+ghost use Rattle.sb_world.specs.Told.{Gains, Rose};
+ghost use Rattle.sb_base.specs.Shapes.{IsSound};
+ghost use Rattle.sb_core.specs.Represents.{geometry_of};
+ghost use Rattle.sb_crew.specs.Desks.{HasRoom};
+ghost use Rattle.s3backer.specs.Fresh.{IsFresh};
+ghost use Rattle.s3backer.specs.Headline.{session_status, session_line, ComplainsOf, Complains, ServesSession, Serves, ServesBench, RunEnds, SaysUsage, IsUsageLine};
+
+use crate::settings::SETTINGS;
+use crate::words::{PlanFault, Usage, plan};
+use sb_base::Geometry;
+use sb_core::Core;
+use sb_crew::{Alone, Desk, DeskRefused};
+use sb_laws::unwindowed_is_legal;
+use sb_session::{Buffer, SessionEnd, serve_alone};
+use sb_world::{Bench, Clock, Link, MakeFault, Sink, Source, Tape, World};
+use std::alloc::{AllocError, Global};
+
+/// What a run leaves: the exit status, and the tape.
+#[derive(Drop)]
+pub struct Outcome<T> {
+    pub status: u8,
+    pub tape: T,
+}
+
+/// The line that tells want of memory.
+const OUT_OF_MEMORY: &[u8] = b"s3backer: out of memory\n";
+
+/// The status of a session's end.
+fn status_of(end: SessionEnd) -> u8
+    ensures { result ≡ session_status end }
+{
+    match end {
+        SessionEnd::Disconnected | SessionEnd::Ended => 0,
+        SessionEnd::Refused | SessionEnd::ReadFault | SessionEnd::WriteFault | SessionEnd::Spent =>
+            7,
+    }
+}
+
+/// Writes the line of a session's end, if it has one.
+fn complain_of<S: Sink>(errors: &mut S, end: SessionEnd)
+    ensures { ComplainsOf (session_line end) (S.held errors.old) (S.held errors.new) (S.faults errors.old) (S.faults errors.new) }
+{
+    match end {
+        SessionEnd::Disconnected | SessionEnd::Ended => {}
+        SessionEnd::Refused => complain(errors, b"s3backer: session: refused\n"),
+        SessionEnd::ReadFault => complain(errors, b"s3backer: session: read fault\n"),
+        SessionEnd::WriteFault => complain(errors, b"s3backer: session: write fault\n"),
+        SessionEnd::Spent => complain(errors, b"s3backer: session: spent\n"),
+    }
+}
+
+/// Writes a line. A fault of that changes nothing else.
+fn complain<S: Sink>(errors: &mut S, line: &[u8])
+    ensures { Complains (S.held errors.old) (S.held errors.new) (S.faults errors.old) (S.faults errors.new) line.now }
+{
+    match errors.write(line) {
+        Ok(()) => {}
+        Err(_) => {}
+    }
+}
+
+/// What a session is served with.
+fn make(alloc: Global, geometry: Geometry) -> Result<(Core, Buffer), AllocError>
+    requires { IsSound geometry }
+    ensures core { IfOk result (λ made. IsFresh geometry made.0) }
+{
+    let core = Core::new(alloc, geometry, SETTINGS)?;
+    let buffer = Buffer::new(alloc)?;
+    Ok((core, buffer))
+}
+
+/// Serves a session over a new disk.
+fn serve_disk<L: Link, C: Clock, R: Source, S: Sink, T: Tape>(
+    core: Core,
+    mut buffer: Buffer,
+    mut desk: Desk<L, C>,
+    tape: T,
+    input: &mut R,
+    output: &mut S,
+    errors: &mut S,
+) -> (u8, T, L, C)
+    requires sound { IsSound (geometry_of core) }
+    requires fresh { IsFresh (geometry_of core) core }
+    requires room { HasRoom (geometry_of core) desk }
+    ensures { ServesSession L.log C.ticks R.left R.faults S.held S.faults (geometry_of core) desk.link result.2 desk.clock result.3 input.old input.new output.old output.new errors.old errors.new (T.told tape) (T.told result.1) result.0 }
+{
+    unwindowed_is_legal();
+    let mut disk = Alone::new(core, tape);
+    let end = serve_alone(&mut disk, &mut desk, &mut buffer, input, output);
+    complain_of(errors, end);
+    let (_core, tape) = disk.finish();
+    let (link, clock) = desk.into_parts();
+    (status_of(end), tape, link, clock)
+}
+
+/// Serves a session with the parts of a bench.
+fn serve_parts<L: Link + Drop, C: Clock + Drop, R: Source, S: Sink, T: Tape + Drop>(
+    alloc: Global,
+    geometry: Geometry,
+    link: L,
+    clock: C,
+    tape: T,
+    input: &mut R,
+    output: &mut S,
+    errors: &mut S,
+) -> (u8, T, L, C)
+    requires { IsSound geometry }
+    ensures { Serves L.log C.ticks R.left R.faults S.held S.faults geometry link result.2 clock result.3 input.old input.new output.old output.new errors.old errors.new (T.told tape) (T.told result.1) result.0 }
+{
+    let (core, buffer) = match make(alloc, geometry) {
+        Ok(made) => made,
+        Err(_) => {
+            complain(errors, OUT_OF_MEMORY);
+            return (12, tape, link, clock);
+        }
+    };
+    match Desk::new(alloc, link, clock, &geometry) {
+        Ok(desk) => serve_disk(core, buffer, desk, tape, input, output, errors),
+        Err(refused) => {
+            let DeskRefused { link, clock } = refused;
+            complain(errors, OUT_OF_MEMORY);
+            (12, tape, link, clock)
+        }
+    }
+}
+
+/// Serves a session on a bench of one link.
+fn serve_bench<L: Link + Drop, C: Clock + Drop, R: Source, S: Sink, T: Tape + Drop>(
+    alloc: Global,
+    geometry: Geometry,
+    bench: Bench<L, C, R, S>,
+    tape: T,
+) -> (u8, T, Bench<L, C, R, S>)
+    requires sound { IsSound geometry }
+    requires one { length bench.links ≡ 1 }
+    ensures { ServesBench L.log C.ticks R.left R.faults S.held S.faults geometry bench result.2 (T.told tape) (T.told result.1) result.0 }
+{
+    let Bench {
+        mut links,
+        clock,
+        mut input,
+        mut output,
+        mut errors,
+    } = bench;
+    let link = match links.pop() {
+        Some(link) => link,
+        None => unreachable!(),
+    };
+    let (status, tape, link, clock) = serve_parts(
+        alloc,
+        geometry,
+        link,
+        clock,
+        tape,
+        &mut input,
+        &mut output,
+        &mut errors,
+    );
+    match links.push(link) {
+        Ok(()) => {}
+        Err(_failed) => unreachable!(),
+    }
+    let bench = Bench {
+        links,
+        clock,
+        input,
+        output,
+        errors,
+    };
+    (status, tape, bench)
+}
+
+/// Runs the program on these words in a world, with its history on the tape.
+///
+/// The status is 0 where the session ended at DISC or between two messages, 2 where the words aren't taken, 3 where the
+/// store can't be reached, 7 where the session ended otherwise, and 12 for want of memory. A status other than 0 has its line
+/// on the bench's error sink, or is said where there is no bench.
+pub fn run<W: World, T: Tape + Drop>(
+    alloc: Global,
+    words: &[String],
+    world: &mut W,
+    tape: T,
+) -> Outcome<T>
+where
+    W::Link: Drop,
+    W::Clock: Drop,
+    ensures { RunEnds W.Link.log W.Clock.ticks W.Source.left W.Source.faults W.Sink.held W.Sink.faults (map string_bytes words.now) (W.faults world.old) (W.faults world.new) (W.next world.old) (W.last world.new) (T.told tape) (T.told result.tape) (W.said world.old) (W.said world.new) result.status }
+{
+    let geometry = match plan(alloc, words) {
+        Ok(geometry) => geometry,
+        Err(PlanFault::Usage(usage)) => {
+            say_usage(alloc, world, &usage);
+            return Outcome { status: 2, tape };
+        }
+        Err(PlanFault::Memory) => {
+            world.say(OUT_OF_MEMORY);
+            return Outcome { status: 12, tape };
+        }
+    };
+    match world.bench(1) {
+        Ok(bench) => {
+            let (status, tape, bench) = serve_bench(alloc, geometry, bench, tape);
+            world.shut(bench);
+            Outcome { status, tape }
+        }
+        Err(MakeFault::Store) => {
+            world.say(b"s3backer: cannot reach the store\n");
+            Outcome { status: 3, tape }
+        }
+        Err(MakeFault::Memory) => {
+            world.say(OUT_OF_MEMORY);
+            Outcome { status: 12, tape }
+        }
+    }
+}
+
+/// Says why words are not taken. Without memory for the wording it says that they aren't.
+fn say_usage<W: World>(alloc: Global, world: &mut W, usage: &Usage)
+    ensures { SaysUsage (W.said world.old) (W.said world.new) }
+{
+    match usage_line(alloc, usage) {
+        Ok(line) => world.say(&line),
+        Err(_) => world.say(b"s3backer: usage: \n"),
+    }
+}
+
+/// The line of words that are not taken.
+fn usage_line(alloc: Global, usage: &Usage) -> Result<Vec<u8>, AllocError>
+    ensures { IfOk result (λ line. IsUsageLine line.items) }
+{
+    let wording = wording(alloc, usage)?;
+    let mut line = Vec::new(alloc);
+    line.extend_from_slice(b"s3backer: usage: ")?;
+    line.extend_from_slice(&wording)?;
+    Ok(line)
+}
+
+/// What is said of words that are not taken.
+fn wording(alloc: Global, usage: &Usage) -> Result<Vec<u8>, AllocError> {
+    let mut text = Vec::new(alloc);
+    match usage {
+        Usage::NotBuilt => text.extend_from_slice(b"s3backer --stdio --size=SIZE memory")?,
+        Usage::BadSize { name, word } => {
+            text.extend_from_slice(name.bytes())?;
+            text.extend_from_slice(b": not a size: ")?;
+            text.extend_from_slice(word.bytes())?;
+        }
+        Usage::Geometry(fault) => {
+            let fault = format!(in alloc; "{fault}")?;
+            text.extend_from_slice(fault.as_bytes())?;
+        }
+    }
+    text.extend_from_slice(b"\n")?;
+    Ok(text)
+}

@@ -1,0 +1,29 @@
+-- What the answers of a link are to the core and to the caller.
+use Rattle.std.specs.Prelude.{ℕ, ◌≡◌, List, Result, Ok, Err}
+use Rattle.sb_base.specs.declared.entry.Shown.{Shown}
+use Rattle.sb_base.specs.declared.entry.Shown.TheVariants as shown
+use Rattle.sb_world.specs.declared.link.Got.{Got}
+use Rattle.sb_world.specs.declared.link.Got.TheVariants as got
+use Rattle.sb_world.specs.declared.link.LinkFault.{LinkFault}
+use Rattle.sb_world.specs.declared.link.LinkFault.TheVariants as link
+use Rattle.sb_crew.specs.declared.calls.CallFault.{CallFault}
+use Rattle.sb_crew.specs.declared.calls.CallFault.TheVariants.{StoreFault, Memory}
+
+-- what a GET showed, with the bytes in its buffer
+abbrev pub shown_for : Result Got LinkFault → List ℕ → Shown
+shown_for (Ok got.Absent) room = shown.Absent
+shown_for (Ok got.Bytes) room = shown.Bytes room
+shown_for (Ok got.Same) room = shown.Same
+shown_for (Err fault) room = shown.Failed
+
+-- the fault that a call of the disk answers for one of its link
+abbrev pub fault_for : LinkFault → CallFault
+fault_for (link.Failed status) = StoreFault status
+fault_for link.Memory = Memory
+
+-- a call of the disk ends as a request of its link did
+abbrev pub EndsAs : {T U : Type 0} → Result T LinkFault → Result U CallFault → Type 0
+EndsAs (Ok value) (Ok other) = Unit {0}
+EndsAs (Err fault) (Err other) = other ≡ fault_for fault
+EndsAs (Ok value) (Err other) = ⊥
+EndsAs (Err fault) (Ok other) = ⊥

@@ -1,0 +1,17 @@
+-- What a disk on one thread is made of.
+use Rattle.std.specs.Prelude.{ℕ, vec_len}
+use Rattle.sb_core.specs.declared.machine.Core.{Core}
+use Rattle.sb_crew.specs.declared.alone.Alone.{Alone}
+use Rattle.sb_crew.specs.declared.desk.Desk.{Desk}
+use Rattle.sb_crew.specs.Ready.{IsReady}
+
+-- the disk's core, and its tape
+abbrev pub core_of : {T : Type 0} → Alone T → Core
+core_of disk = disk.core
+
+abbrev pub tape_of : {T : Type 0} → Alone T → T
+tape_of disk = disk.tape
+
+-- a call of the disk may be made with this desk
+abbrev pub IsReadyWith : {T L C : Type 0} → Alone T → Desk L C → Type 0
+IsReadyWith disk desk = IsReady disk.core disk.reading (vec_len desk.room)

@@ -1,0 +1,9 @@
+pub mod Outcomes
+pub mod Names
+pub mod Desks
+pub mod Answers
+pub mod Runs
+pub mod Turns
+pub mod Ready
+pub mod Joins
+pub mod Disks

@@ -1,0 +1,40 @@
+-- What the calls of a disk on one thread did: how the core moved, and what tape, link and clock gained. Entries, calls and
+-- ticks are newest first.
+use Rattle.std.specs.Prelude.{ℕ, ◌≡◌, ◌*◌, true, List, ◌++◌, Option, Some, None}
+use Rattle.sb_base.specs.declared.geometry.Geometry.{Geometry}
+use Rattle.sb_base.specs.declared.entry.Entry.{Entry}
+use Rattle.sb_world.specs.Told.{Gains}
+use Rattle.sb_world.specs.declared.clock.Tick.{Tick}
+use Rattle.sb_world.specs.declared.link.Call.{Call}
+use Rattle.sb_world.specs.declared.link.Meta.{Meta}
+use Rattle.sb_history.specs.Passes.{IsOfPass}
+use Rattle.sb_history.specs.Requests.{RequestLog}
+use Rattle.sb_history.specs.ClockTrace.{Caller, ClockTrace}
+use Rattle.sb_core.specs.declared.machine.Core.{Core}
+use Rattle.sb_core.specs.Represents.{Represents, geometry_of, settings_of}
+use Rattle.sb_core.specs.Progress.{SameBase}
+use Rattle.sb_crew.specs.Names.{block_name}
+
+-- the one caller of a disk on one thread
+abbrev pub only_caller : Caller
+only_caller = record { pass = 1; alone = true }
+
+-- the sizes that the first block's object carries
+abbrev pub sizes_of : Geometry → Meta
+sizes_of geometry = record { size = geometry.block_size * geometry.blocks; block_size = geometry.block_size }
+
+-- the core added these entries to each history that it represents, the tape has them, and the clock gave their readings
+pub record Runs (core core' : Core) (tape tape' : Option (List Entry)) (clock clock' : Option (List Tick)) (entries : List Entry) : Type 0 where
+  pub base : SameBase core core'
+  pub history : (past : List Entry) → Represents core past → Represents core' (entries ++ past)
+  pub of_pass : IsOfPass 1 entries
+  pub told : Gains tape tape' entries
+  pub ticks : List Tick
+  pub readings : Gains clock clock' ticks
+  pub trace : (past : List Entry) → Represents core past → ClockTrace (geometry_of core) (settings_of core) only_caller past entries None ticks
+
+-- these entries were added, and the link's log gained just the calls that they stand for
+pub record Did (core core' : Core) (tape tape' : Option (List Entry)) (log log' : Option (List Call)) (clock clock' : Option (List Tick)) (entries : List Entry) (calls : List Call) : Type 0 where
+  pub runs : Runs core core' tape tape' clock clock' entries
+  pub asked : Gains log log' calls
+  pub requests : RequestLog block_name (Some (sizes_of (geometry_of core))) entries calls

@@ -1,0 +1,11 @@
+//! A disk for its callers: each call makes the requests that the core asks for, until it has an answer.
+#![tactic(auto)]
+
+mod alone;
+mod calls;
+mod desk;
+mod names;
+
+pub use alone::Alone;
+pub use calls::{CallFault, Calls};
+pub use desk::{Desk, DeskRefused};

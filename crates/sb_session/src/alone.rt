@@ -1,0 +1,43 @@
+//! A session over a disk on one thread.
+
+ghost use Rattle.std.specs.Prelude.{◌≡◌, vec_len};
+ghost use Rattle.sb_base.specs.Shapes.{IsSound};
+ghost use Rattle.sb_world.specs.Told.{CountsFaults};
+ghost use Rattle.sb_core.specs.Represents.{geometry_of};
+ghost use Rattle.sb_crew.specs.Disks.{core_of, tape_of, IsReadyWith};
+ghost use Rattle.sb_crew.specs.Runs.{Did};
+ghost use Rattle.sb_session.specs.Sessions.{SessionTold};
+
+use crate::buffer::Buffer;
+use crate::end::SessionEnd;
+use crate::serving::serve;
+use sb_crew::{Alone, Desk};
+use sb_world::{Clock, Link, Sink, Source, Tape};
+
+/// What the export tells of the disk: that it has flags (bit 0), and that it can be flushed (bit 2).
+pub const TRANSMISSION_FLAGS: u16 = 5;
+
+/// Serves one client over a disk on one thread, until its session ends. It always returns.
+pub fn serve_alone<T: Tape, L: Link, C: Clock, R: Source, S: Sink>(
+    disk: &mut Alone<T>,
+    desk: &mut Desk<L, C>,
+    buffer: &mut Buffer,
+    source: &mut R,
+    sink: &mut S,
+) -> SessionEnd
+    requires ready { IsReadyWith disk.old desk.old }
+    requires sound { IsSound (geometry_of (core_of disk.old)) }
+    ensures ready { IsReadyWith disk.new desk.new }
+    ensures told { SessionTold (geometry_of (core_of disk.old)) TRANSMISSION_FLAGS (R.left source.old) (R.left source.new) (S.held sink.old) (S.held sink.new) (Did (core_of disk.old) (core_of disk.new) (T.told (tape_of disk.old)) (T.told (tape_of disk.new)) (L.log desk.old.link) (L.log desk.new.link) (C.ticks desk.old.clock) (C.ticks desk.new.clock)) result }
+    ensures read_cause { CountsFaults (R.faults source.old) (R.faults source.new) (result ≡ SessionEnd.ReadFault) }
+    ensures write_cause { CountsFaults (S.faults sink.old) (S.faults sink.new) (result ≡ SessionEnd.WriteFault) }
+{
+    serve(
+        disk,
+        desk,
+        TRANSMISSION_FLAGS,
+        buffer.bytes.as_mut_slice(),
+        source,
+        sink,
+    )
+}
