@@ -1,0 +1,2 @@
+pub mod HexFronts
+pub mod NameLemmas
