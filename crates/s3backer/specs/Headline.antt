@@ -60,7 +60,8 @@ ComplainsOf (Some line) held held' faults faults' = Complains held held' faults 
 
 -- a disk's history: what its tape, the link's log and the clock gained, the rules that it follows, and that each read is that
 -- of a register over every store that shows the latest versions
-pub record IsHistory (geometry : Geometry) (told told' : Option (List Entry)) (log log' : Option (List Call)) (ticks ticks' : Option (List Tick)) (entries : List Entry) (calls : List Call) : Type 0 where
+pub record IsHistory (geometry : Geometry) (told told' : Option (List Entry)) (log log' : Option (List Call))
+    (ticks ticks' : Option (List Tick)) (entries : List Entry) (calls : List Call) : Type 0 where
   pub of_pass : IsOfPass 1 entries
   pub tape : Gains told told' entries
   pub asked : Gains log log' calls
@@ -70,49 +71,62 @@ pub record IsHistory (geometry : Geometry) (told told' : Option (List Entry)) (l
   pub trace : ClockTrace geometry SETTINGS only_caller [] entries None readings
   pub rules : FollowsAccessRules geometry SETTINGS nothing_found entries
   pub policy : FollowsCachePolicy geometry SETTINGS nothing_found entries
-  pub legal : (start : Start) → FillBlocks geometry.block_size start → IsStaleWithin geometry.block_size start at_once entries → IsLegal start entries
+  pub legal : (start : Start) → FillBlocks geometry.block_size start
+      → IsStaleWithin geometry.block_size start at_once entries → IsLegal start entries
 
-module _ {L C R S : Type 0} (log : L → Option (List Call)) (ticks : C → Option (List Tick)) (left : R → Option (List ℕ)) (read_faults : R → ℕ) (held : S → Option (List ℕ)) (write_faults : S → ℕ) where
+-- over any links, clocks, sources and sinks, by what they tell and their counts of faults
+module _ {L C R S : Type 0} (log : L → Option (List Call)) (ticks : C → Option (List Tick)) (left : R → Option (List ℕ))
+    (read_faults : R → ℕ) (held : S → Option (List ℕ)) (write_faults : S → ℕ) where
   -- a session was served: its history, its course over the bytes, its end with status and line
-  pub record ServesSession (geometry : Geometry) (link link' : L) (clock clock' : C) (input input' : R) (output output' errors errors' : S) (told told' : Option (List Entry)) (status : ℕ) : Type 0 where
+  pub record ServesSession (geometry : Geometry) (link link' : L) (clock clock' : C) (input input' : R)
+      (output output' errors errors' : S) (told told' : Option (List Entry)) (status : ℕ) : Type 0 where
     pub entries : List Entry
     pub calls : List Call
     pub history : IsHistory geometry told told' (log link) (log link') (ticks clock) (ticks clock') entries calls
     pub ended : SessionEnd
     pub course :
-        (Unopened geometry TRANSMISSION_FLAGS (left input) (left input') (held output) (held output') ended × (entries ≡ []) × (calls ≡ []))
-        ⊎ Served geometry TRANSMISSION_FLAGS (left input) (left input') (held output) (held output') ended entries calls
+        (Unopened geometry TRANSMISSION_FLAGS (left input) (left input') (held output) (held output') ended
+            × (entries ≡ []) × (calls ≡ []))
+        ⊎ Served geometry TRANSMISSION_FLAGS (left input) (left input') (held output) (held output') ended
+            entries calls
     pub read_cause : ended ≡ end.ReadFault → Rose (read_faults input) (read_faults input')
     pub write_cause : ended ≡ end.WriteFault → Rose (write_faults output) (write_faults output')
     pub status_is : status ≡ session_status ended
-    pub complains : ComplainsOf (session_line ended) (held errors) (held errors') (write_faults errors) (write_faults errors')
+    pub complains : ComplainsOf (session_line ended)
+        (held errors) (held errors') (write_faults errors) (write_faults errors')
 
   -- want of memory came before the session: nothing was asked, read or written but the line that tells it
-  pub record LacksMemory (link link' : L) (clock clock' : C) (input input' : R) (output output' errors errors' : S) (told told' : Option (List Entry)) (status : ℕ) : Type 0 where
+  pub record LacksMemory (link link' : L) (clock clock' : C) (input input' : R)
+      (output output' errors errors' : S) (told told' : Option (List Entry)) (status : ℕ) : Type 0 where
     pub status_is : status ≡ 12
     pub link_stays : link' ≡ link
     pub clock_stays : clock' ≡ clock
     pub input_stays : input' ≡ input
     pub output_stays : output' ≡ output
     pub tape_stays : told' ≡ told
-    pub complains : Complains (held errors) (held errors') (write_faults errors) (write_faults errors') (codes "s3backer: out of memory\n")
+    pub complains : Complains (held errors) (held errors') (write_faults errors) (write_faults errors')
+        (codes "s3backer: out of memory\n")
 
   -- what a run did with what its bench had
-  abbrev pub Serves : Geometry → L → L → C → C → R → R → S → S → S → S → Option (List Entry) → Option (List Entry) → ℕ → Type 0
+  abbrev pub Serves : Geometry → L → L → C → C → R → R → S → S → S → S → Option (List Entry) → Option (List Entry)
+      → ℕ → Type 0
   Serves geometry link link' clock clock' input input' output output' errors errors' told told' status =
       ServesSession geometry link link' clock clock' input input' output output' errors errors' told told' status
       ⊎ LacksMemory link link' clock clock' input input' output output' errors errors' told told' status
 
   -- a run on a bench of one link
-  pub record ServesBench (geometry : Geometry) (before after : BenchParts L C R S) (told told' : Option (List Entry)) (status : ℕ) : Type 0 where
+  pub record ServesBench (geometry : Geometry) (before after : BenchParts L C R S)
+      (told told' : Option (List Entry)) (status : ℕ) : Type 0 where
     pub link : L
     pub link' : L
     pub one : before.links ≡ link ∷ []
     pub one' : after.links ≡ link' ∷ []
-    pub serves : Serves geometry link link' before.clock after.clock before.input after.input before.output after.output before.errors after.errors told told' status
+    pub serves : Serves geometry link link' before.clock after.clock before.input after.input
+        before.output after.output before.errors after.errors told told' status
 
   -- a run on the world's next bench, which was shut then
-  pub record RunsBench (geometry : Geometry) (next last : Option (BenchParts L C R S)) (told told' : Option (List Entry)) (status : ℕ) : Type 0 where
+  pub record RunsBench (geometry : Geometry) (next last : Option (BenchParts L C R S))
+      (told told' : Option (List Entry)) (status : ℕ) : Type 0 where
     pub before : BenchParts L C R S
     pub after : BenchParts L C R S
     pub next_is : IfSome next (λ parts. before ≡ with_links 1 parts)
@@ -129,7 +143,8 @@ abbrev pub IsUsageLine : List ℕ → Type 0
 IsUsageLine line = (wording : List ℕ) × (line ≡ codes "s3backer: usage: " ++ wording)
 
 -- the words were refused: nothing but a line about them
-pub record RefusesWords (words : List (List ℕ)) (told told' : Option (List Entry)) (said said' : Option (List (List ℕ))) (status : ℕ) : Type 0 where
+pub record RefusesWords (words : List (List ℕ)) (told told' : Option (List Entry))
+    (said said' : Option (List (List ℕ))) (status : ℕ) : Type 0 where
   pub usage : Usage
   pub refused : IsRefused words usage
   pub status_is : status ≡ 2
@@ -137,7 +152,8 @@ pub record RefusesWords (words : List (List ℕ)) (told told' : Option (List Ent
   pub says : SaysUsage said said'
 
 -- the words were taken, and the world had no bench: its count of faults rose
-pub record HasNoBench (words : List (List ℕ)) (faults faults' : ℕ) (told told' : Option (List Entry)) (said said' : Option (List (List ℕ))) (status : ℕ) : Type 0 where
+pub record HasNoBench (words : List (List ℕ)) (faults faults' : ℕ) (told told' : Option (List Entry))
+    (said said' : Option (List (List ℕ))) (status : ℕ) : Type 0 where
   pub geometry : Geometry
   pub taken : IsTaken words geometry
   pub cause : Rose faults faults'
@@ -146,21 +162,26 @@ pub record HasNoBench (words : List (List ℕ)) (faults faults' : ℕ) (told tol
   pub says : Gains said said' (codes "s3backer: cannot reach the store\n" ∷ [])
 
 -- want of memory came before there was a bench
-pub record LacksMemoryEarly (told told' : Option (List Entry)) (said said' : Option (List (List ℕ))) (status : ℕ) : Type 0 where
+pub record LacksMemoryEarly (told told' : Option (List Entry)) (said said' : Option (List (List ℕ))) (status : ℕ)
+    : Type 0 where
   pub status_is : status ≡ 12
   pub tape_stays : told' ≡ told
   pub says : Gains said said' (codes "s3backer: out of memory\n" ∷ [])
 
-module _ {L C R S : Type 0} (log : L → Option (List Call)) (ticks : C → Option (List Tick)) (left : R → Option (List ℕ)) (read_faults : R → ℕ) (held : S → Option (List ℕ)) (write_faults : S → ℕ) where
+-- over any links, clocks, sources and sinks, by what they tell and their counts of faults
+module _ {L C R S : Type 0} (log : L → Option (List Call)) (ticks : C → Option (List Tick)) (left : R → Option (List ℕ))
+    (read_faults : R → ℕ) (held : S → Option (List ℕ)) (write_faults : S → ℕ) where
   -- the words were taken, and the world's next bench served
-  pub record ServesWords (words : List (List ℕ)) (next last' : Option (BenchParts L C R S)) (told told' : Option (List Entry)) (said said' : Option (List (List ℕ))) (status : ℕ) : Type 0 where
+  pub record ServesWords (words : List (List ℕ)) (next last' : Option (BenchParts L C R S))
+      (told told' : Option (List Entry)) (said said' : Option (List (List ℕ))) (status : ℕ) : Type 0 where
     pub geometry : Geometry
     pub taken : IsTaken words geometry
     pub runs : RunsBench log ticks left read_faults held write_faults geometry next last' told told' status
     pub quiet : said' ≡ said
 
   -- how a run ends
-  abbrev pub RunEnds : List (List ℕ) → ℕ → ℕ → Option (BenchParts L C R S) → Option (BenchParts L C R S) → Option (List Entry) → Option (List Entry) → Option (List (List ℕ)) → Option (List (List ℕ)) → ℕ → Type 0
+  abbrev pub RunEnds : List (List ℕ) → ℕ → ℕ → Option (BenchParts L C R S) → Option (BenchParts L C R S)
+      → Option (List Entry) → Option (List Entry) → Option (List (List ℕ)) → Option (List (List ℕ)) → ℕ → Type 0
   RunEnds words faults faults' next last' told told' said said' status =
       RefusesWords words told told' said said' status
       ⊎ (HasNoBench words faults faults' told told' said said' status
