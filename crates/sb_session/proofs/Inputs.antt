@@ -1,5 +1,5 @@
 -- An input is read in one way.
-use Rattle.std.proofs.Common.{ℕ, ◌≡◌, ◌≤◌, ◌<◌, ◌+◌, ◌∙◌, ◌⊎◌, ◌^◌, Bool, List, [], ◌∷◌, ◌++◌, Option, Some, length, true, false, append_assoc, append-nil, ap, sym, subst, refl, arith, inl, inr, nat_eq, if◌then◌else◌}
+use Rattle.std.proofs.Common.{ℕ, ◌≡◌, ◌≤◌, ◌<◌, ◌+◌, ◌∙◌, ◌^◌, List, [], ◌∷◌, ◌++◌, Option, Some, length, true, false, append_assoc, append-nil, ap, sym, subst, refl, arith, inl, inr, nat_eq, if◌then◌else◌}
 use Rattle.std.specs.Int.{w32, to_be_bytes}
 use Rattle.std.specs.List.{AllByRecursion}
 use Rattle.std.proofs.lemmas.Bool.Decides.{nat_tests}
@@ -21,7 +21,7 @@ use Rattle.sb_session.specs.Goals.{is_served, is_disc}
 use Rattle.sb_session.specs.Transcripts.{Exchange, IsTranscript, asking_bytes, requests_of}
 use Rattle.sb_session.specs.Handshakes.{end_of}
 use Rattle.sb_session.specs.Turns.{Stopped, StopsBy}
-use Rattle.sb_session.specs.Inputs.{bytes_of, IsServed, IsUnserved, IsDisc, IsMalformed, IsRefused, EndsInput, IsInput, IsByInput}
+use Rattle.sb_session.specs.Inputs.{bytes_of, IsServed, IsDisc, IsMalformed, IsRefused, EndsInput, IsInput, IsByInput}
 
 bytes_of-append : (xs ys : List Request) → bytes_of (xs ++ ys) ≡ bytes_of xs ++ bytes_of ys
 bytes_of-append [] ys = refl

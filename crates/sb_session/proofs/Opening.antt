@@ -1,12 +1,11 @@
 -- A handshake, and the session behind it.
-use Rattle.std.proofs.Common.{ℕ, ◌≡◌, ◌≢◌, ◌≤◌, ◌<◌, ◌+◌, ◌*◌, ◌∙◌, ◌⊎◌, List, [], ◌++◌, Option, Err, length, take, append_assoc, ap, sym, subst, refl, inl, inr, arith}
+use Rattle.std.proofs.Common.{ℕ, ◌≡◌, ◌≤◌, ◌<◌, ◌*◌, ◌∙◌, List, [], ◌++◌, Option, Err, take, append_assoc, ap, sym, subst, refl, inl, inr, arith}
 use Rattle.std.specs.Int.{w32, to_be_bytes}
 use Rattle.sb_base.specs.declared.geometry.Geometry.{Geometry}
 use Rattle.sb_base.specs.declared.entry.Entry.{Entry}
 use Rattle.sb_world.specs.Streams.{Takes, Holds, WriteHolds}
 use Rattle.sb_world.specs.declared.link.Call.{Call}
 use Rattle.sb_nbd.specs.declared.end.NbdEnd.{NbdEnd}
-use Rattle.sb_nbd.specs.declared.end.NbdEnd.TheVariants as nbd
 use Rattle.sb_nbd.specs.declared.option.Asked.{Asked}
 use Rattle.sb_nbd.specs.declared.option.TheConstants.{EXPORT_NAME}
 use Rattle.sb_nbd.specs.declared.greeting.TheConstants.{MAX_FLAGS}
@@ -16,7 +15,7 @@ use Rattle.sb_nbd.specs.Greetings.{greeting_bytes, export_bytes, StopsFlags}
 use Rattle.sb_nbd.proofs.Streaming.{takes_both, takes_nothing, holds_both}
 use Rattle.sb_session.specs.declared.end.SessionEnd.{SessionEnd}
 use Rattle.sb_session.specs.declared.end.SessionEnd.TheVariants.{Refused, WriteFault}
-use Rattle.sb_session.specs.Handshakes.{end_of, export_option, opening_bytes, wants_zeroes, handshake_bytes, Opened, Unopened}
+use Rattle.sb_session.specs.Handshakes.{end_of, export_option, opening_bytes, wants_zeroes, Opened, Unopened}
 use Rattle.sb_session.specs.Turns.{TurnsEnd}
 use Rattle.sb_session.specs.Transcripts.{entries_of, calls_of}
 use Rattle.sb_session.specs.Sessions.{Served}

@@ -1,7 +1,7 @@
 -- Reading a range, part by part.
-use Rattle.std.proofs.Common.{ℕ, ◌≡◌, ◌≤◌, ◌<◌, ◌+◌, ◌-◌, ◌∙◌, ◌⊎◌, List, [], ◌∷◌, ◌++◌, length, take, drop, Ok, Err, sum_by, length-take, length-drop, append_assoc, append-nil, ap, sym, subst, refl, arith, inl, inr}
+use Rattle.std.proofs.Common.{ℕ, ◌≡◌, ◌≤◌, ◌+◌, ◌-◌, ◌∙◌, List, [], ◌∷◌, ◌++◌, length, take, drop, Ok, Err, sum_by, length-take, length-drop, append_assoc, append-nil, ap, sym, subst, refl, arith, inl, inr}
 use Rattle.std.specs.List.{AllByRecursion}
-use Rattle.std.proofs.lemmas.List.{length-append, length-take-le, take-append-le, take_at}
+use Rattle.std.proofs.lemmas.List.{length-append}
 use Rattle.std.proofs.lemmas.List.Sums.{sum_by-append, sum_by-cons}
 use Rattle.std.proofs.lemmas.Slice.{take-put_mid}
 use borrow.Rule.Slice.PartMut.{put_mid}
@@ -11,7 +11,7 @@ use Rattle.sb_base.specs.declared.entry.Entry.{Entry}
 use Rattle.sb_world.specs.declared.link.Call.{Call}
 use Rattle.sb_nbd.specs.declared.wanted.Wanted.{Wanted}
 use Rattle.sb_crew.specs.declared.calls.CallFault.{CallFault}
-use Rattle.sb_crew.specs.Outcomes.{Outcome, ReadDone, outcome_of, outcomes_of, bytes_of, bytes_read, asked_of, blocks_asked, IsBlockOf, AsksOnly, HasCause, ReadDoes}
+use Rattle.sb_crew.specs.Outcomes.{ReadDone, outcome_of, outcomes_of, bytes_of, bytes_read, asked_of, blocks_asked, IsBlockOf, AsksOnly, HasCause, ReadDoes}
 use Rattle.sb_session.specs.Goals.{parts_wanted, reads_of}
 use Rattle.sb_session.specs.Answers.{ReadsRange, Answers, error_of}
 

@@ -1,5 +1,5 @@
 -- What one request comes to.
-use Rattle.std.proofs.Common.{ℕ, ◌≡◌, ◌≢◌, ◌≤◌, ◌+◌, ◌∙◌, List, [], ◌∷◌, ◌++◌, Option, Result, Ok, Err, IsErrOf, true, false, length, append-nil, ap, sym, subst, refl, arith, inl, inr}
+use Rattle.std.proofs.Common.{ℕ, ◌≡◌, ◌≢◌, List, [], ◌∷◌, ◌++◌, Option, Err, true, false, append-nil, sym, subst, refl, arith, inl, inr}
 use Rattle.sb_base.specs.declared.geometry.Geometry.{Geometry}
 use Rattle.sb_base.specs.declared.entry.Entry.{Entry}
 use Rattle.sb_world.specs.Streams.{Takes, Holds, WriteHolds}
@@ -11,13 +11,12 @@ use Rattle.sb_nbd.specs.RequestReading.{StopsRequest}
 use Rattle.sb_nbd.specs.Replies.{reply_bytes}
 use Rattle.sb_nbd.proofs.Streaming.{holds_nothing}
 use Rattle.sb_session.specs.declared.end.SessionEnd.{SessionEnd}
-use Rattle.sb_session.specs.declared.end.SessionEnd.TheVariants.{Disconnected, Ended, Refused, ReadFault, WriteFault, Spent}
+use Rattle.sb_session.specs.declared.end.SessionEnd.TheVariants.{Disconnected, Refused, WriteFault, Spent}
 use Rattle.sb_session.specs.Goals.{is_served, is_disc}
 use Rattle.sb_session.specs.Answers.{Answers}
 use Rattle.sb_session.specs.Transcripts.{Exchange}
-use Rattle.sb_session.specs.Inputs.{IsDisc, IsUnserved}
 use Rattle.sb_session.specs.Handshakes.{end_of}
-use Rattle.sb_session.specs.Turns.{StopsBy, Serves, Stopped, TurnEnds}
+use Rattle.sb_session.specs.Turns.{StopsBy, Serves, TurnEnds}
 
 stops_by : (geometry : Geometry) (now : Option (List ℕ)) (bytes : List ℕ) (end : NbdEnd)
     → StopsRequest now bytes end → StopsBy geometry now bytes (end_of end)

@@ -1,5 +1,5 @@
 -- Which requests are served, and what they want done.
-use Rattle.std.specs.Prelude.{ℕ, ◌≡◌, ◌+◌, ◌*◌, ◌&&◌, nat_eq, nat_le, Bool, List, [], ◌∷◌, ◌++◌}
+use Rattle.std.specs.Prelude.{◌+◌, ◌*◌, ◌&&◌, nat_eq, nat_le, Bool, List, [], ◌∷◌, ◌++◌}
 use Rattle.sb_base.specs.declared.geometry.Geometry.{Geometry}
 use Rattle.sb_base.specs.declared.part.Part.{Part}
 use Rattle.sb_base.specs.Ranges.{parts_of}

@@ -11,7 +11,7 @@ use Rattle.sb_nbd.specs.declared.end.NbdEnd.TheVariants as nbd
 use Rattle.sb_nbd.specs.Requests.{magic_bytes, fields_bytes, FitsFields, Request, IsRequest, request_bytes}
 use Rattle.sb_nbd.specs.RequestReading.{IsCutRequest}
 use Rattle.sb_session.specs.declared.end.SessionEnd.{SessionEnd}
-use Rattle.sb_session.specs.declared.end.SessionEnd.TheVariants.{Disconnected, Ended, Refused, ReadFault, WriteFault, Spent}
+use Rattle.sb_session.specs.declared.end.SessionEnd.TheVariants.{Disconnected, Ended, Refused}
 use Rattle.sb_session.specs.Goals.{is_served, is_disc}
 
 -- the bytes of requests, the oldest first

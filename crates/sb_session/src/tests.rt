@@ -1,9 +1,10 @@
 //! Sessions over a disk and a connection in memory.
 
-ghost use Rattle.std.specs.Prelude.{◌≡◌, ◌≤◌, ◌*◌, None, vec_len, length};
+ghost use Rattle.std.specs.Prelude.{◌≡◌, ◌≤◌, ◌*◌, None, IfOk, vec_len, length};
 
-use crate::{CallFault, Calls, SessionEnd, serve};
+use crate::{SessionEnd, serve};
 use sb_base::{Geometry, Part};
+use sb_crew::{CallFault, Calls};
 use sb_nbd::MAX_PAYLOAD;
 use sb_world::{ReadFault, Sink, Source, WriteFault};
 use std::alloc::{AllocError, Global};
@@ -107,6 +108,8 @@ impl Sink for Outgoing {
 /// A client's flags 3, and EXPORT_NAME with the empty name.
 const OPENING: &[u8] = b"\x00\x00\x00\x03IHAVEOPT\x00\x00\x00\x01\x00\x00\x00\x00";
 
+const GREETING: &[u8] = b"NBDMAGICIHAVEOPT\x00\x03";
+
 /// The greeting, and an export of 65,536 bytes with the flags 5.
 const HANDSHAKE: &[u8] = b"NBDMAGICIHAVEOPT\x00\x03\x00\x00\x00\x00\x00\x01\x00\x00\x00\x05";
 
@@ -148,6 +151,18 @@ fn sink_for(alloc: Global, writes: u8) -> Outgoing {
     }
 }
 
+/// `41` at 4,095, `5a` at 65,535, and zeros elsewhere.
+fn content(alloc: Global, geometry: Geometry) -> Result<Vec<u8>, AllocError>
+    ensures { IfOk result (λ kept. vec_len kept ≡ geometry.block_size * geometry.blocks) }
+{
+    let mut kept = vec![in alloc; 0; geometry.size() as usize]?;
+    if kept.len() > 65_535 {
+        kept[4_095] = 0x41;
+        kept[65_535] = 0x5a;
+    }
+    Ok(kept)
+}
+
 /// Serves a session over a disk of 16 blocks of 4,096 bytes.
 fn run(
     alloc: Global,
@@ -155,23 +170,22 @@ fn run(
     source: &mut Incoming,
     sink: &mut Outgoing,
     room: &mut [u8],
-) -> Result<SessionEnd, AllocError>
+) -> Result<Option<SessionEnd>, AllocError>
     requires { MAX_PAYLOAD ≤ length room.old }
     ensures { length room.new ≡ length room.old }
 {
-    let mut kept = vec![in alloc; 0; 65_536]?;
-    kept[4_095] = 0x41;
-    kept[65_535] = 0x5a;
-    let geometry = Geometry {
-        block_size: 4096,
-        blocks: 16,
-    };
-    let mut disk = Bytes {
-        kept,
-        geometry,
-        fault,
-    };
-    Ok(serve(&mut disk, &mut (), 5, room, source, sink))
+    match Geometry::make(65_536, 4096) {
+        Ok(geometry) => {
+            let kept = content(alloc, geometry)?;
+            let mut disk = Bytes {
+                kept,
+                geometry,
+                fault,
+            };
+            Ok(Some(serve(&mut disk, &mut (), 5, room, source, sink)))
+        }
+        Err(_) => Ok(None),
+    }
 }
 
 #[test]
@@ -187,7 +201,7 @@ fn a_client_that_asks_for_nothing_gets_greeting_and_export(rt: HostRuntime) -> R
             &mut sink,
             room.as_mut_slice()
         )?,
-        SessionEnd::Disconnected
+        Some(SessionEnd::Disconnected)
     );
     assert!(rt; sink.bytes.as_slice() == HANDSHAKE);
     Ok(())
@@ -207,181 +221,222 @@ fn an_export_is_padded_unless_no_zeroes_are_wanted(rt: HostRuntime) -> Result<()
             &mut sink,
             room.as_mut_slice()
         )?,
-        SessionEnd::Ended
+        Some(SessionEnd::Ended)
     );
     let wanted = joined(rt.alloc(), &[HANDSHAKE, [0; 124].as_slice()])?;
     assert!(rt; sink.bytes == wanted);
     Ok(())
 }
 
+/// Whether the bytes of the reads in pieces of this length get the replies.
+fn is_read(alloc: Global, piece: usize, room: &mut [u8]) -> Result<bool, AllocError>
+    requires { MAX_PAYLOAD ≤ length room.old }
+    ensures { length room.new ≡ length room.old }
+{
+    let mut source = source_of(alloc, &[OPENING, READS, DISCONNECT], piece)?;
+    let mut sink = sink_for(alloc, 9);
+    let end = run(alloc, None, &mut source, &mut sink, room)?;
+    let wanted = joined(alloc, &[HANDSHAKE, REPLIES])?;
+    Ok(end == Some(SessionEnd::Disconnected) && sink.bytes == wanted)
+}
+
 #[test]
-fn reads_in_pieces_of_one_byte_and_in_one_piece_get_the_same_replies(
-    rt: HostRuntime,
-) -> Result<(), Fail> {
+fn reads_in_one_piece_get_their_replies(rt: HostRuntime) -> Result<(), Fail> {
     let mut room = vec![in rt.alloc(); 0; 33_554_432]?;
-    let wanted = joined(rt.alloc(), &[HANDSHAKE, REPLIES])?;
-    for piece in [1, 4096] {
-        let mut source = source_of(rt.alloc(), &[OPENING, READS, DISCONNECT], piece)?;
-        let mut sink = sink_for(rt.alloc(), 9);
-        assert_eq!(rt;
-            run(
-                rt.alloc(),
-                None,
-                &mut source,
-                &mut sink,
-                room.as_mut_slice()
-            )?,
-            SessionEnd::Disconnected
-        );
-        assert!(rt; sink.bytes == wanted);
-    }
+    let read = is_read(rt.alloc(), 4096, room.as_mut_slice())?;
+    assert!(rt; read);
     Ok(())
 }
 
 #[test]
-fn a_fault_of_the_disk_is_an_error_and_the_session_goes_on(rt: HostRuntime) -> Result<(), Fail> {
+fn reads_in_pieces_of_one_byte_get_the_same_replies(rt: HostRuntime) -> Result<(), Fail> {
     let mut room = vec![in rt.alloc(); 0; 33_554_432]?;
-    let ending =
-        b"\x00\x00\x00\x00\x00\x00\x00\x03\x67\x44\x66\x98\x00\x00\x00\x00\x00\x00\x00\x00\x00\x00\x00\x04\x67\x44\x66\x98\x00\x00\x00\x00\x00\x00\x00\x00\x00\x00\x00\x05\x5a";
+    let read = is_read(rt.alloc(), 1, room.as_mut_slice())?;
+    assert!(rt; read);
+    Ok(())
+}
+
+/// The replies to `READS` behind the error of the first.
+const AFTER_AN_ERROR: &[u8] =
+    b"\x00\x00\x00\x00\x00\x00\x00\x03\x67\x44\x66\x98\x00\x00\x00\x00\x00\x00\x00\x00\x00\x00\x00\x04\x67\x44\x66\x98\x00\x00\x00\x00\x00\x00\x00\x00\x00\x00\x00\x05\x5a";
+
+#[test]
+fn a_store_that_failed_is_an_error_and_the_session_goes_on(rt: HostRuntime) -> Result<(), Fail> {
+    let mut room = vec![in rt.alloc(); 0; 33_554_432]?;
     let mut source = source_of(rt.alloc(), &[OPENING, READS, DISCONNECT], 4096)?;
     let mut sink = sink_for(rt.alloc(), 9);
     let failed = Some(CallFault::StoreFault { status: 503 });
-    assert_eq!(rt;
-        run(
-            rt.alloc(),
-            failed,
-            &mut source,
-            &mut sink,
-            room.as_mut_slice()
-        )?,
-        SessionEnd::Disconnected
-    );
-    let wanted = joined(
+    let end = run(
         rt.alloc(),
-        &[
-            HANDSHAKE,
-            b"\x67\x44\x66\x98\x00\x00\x00\x05".as_slice(),
-            ending.as_slice(),
-        ],
+        failed,
+        &mut source,
+        &mut sink,
+        room.as_mut_slice(),
     )?;
+    assert_eq!(rt; end, Some(SessionEnd::Disconnected));
+    let error = b"\x67\x44\x66\x98\x00\x00\x00\x05";
+    let wanted = joined(rt.alloc(), &[HANDSHAKE, error.as_slice(), AFTER_AN_ERROR])?;
     assert!(rt; sink.bytes == wanted);
-    let mut again = source_of(rt.alloc(), &[OPENING, READS, DISCONNECT], 4096)?;
-    let mut other = sink_for(rt.alloc(), 9);
+    Ok(())
+}
+
+#[test]
+fn memory_that_ran_out_is_another_error(rt: HostRuntime) -> Result<(), Fail> {
+    let mut room = vec![in rt.alloc(); 0; 33_554_432]?;
+    let mut source = source_of(rt.alloc(), &[OPENING, READS, DISCONNECT], 4096)?;
+    let mut sink = sink_for(rt.alloc(), 9);
     let memory = Some(CallFault::Memory);
-    assert_eq!(rt;
-        run(
-            rt.alloc(),
-            memory,
-            &mut again,
-            &mut other,
-            room.as_mut_slice()
-        )?,
-        SessionEnd::Disconnected
-    );
-    let wanted = joined(
+    let end = run(
         rt.alloc(),
-        &[
-            HANDSHAKE,
-            b"\x67\x44\x66\x98\x00\x00\x00\x0c".as_slice(),
-            ending.as_slice(),
-        ],
+        memory,
+        &mut source,
+        &mut sink,
+        room.as_mut_slice(),
     )?;
-    assert!(rt; other.bytes == wanted);
+    assert_eq!(rt; end, Some(SessionEnd::Disconnected));
+    let error = b"\x67\x44\x66\x98\x00\x00\x00\x0c";
+    let wanted = joined(rt.alloc(), &[HANDSHAKE, error.as_slice(), AFTER_AN_ERROR])?;
+    assert!(rt; sink.bytes == wanted);
     Ok(())
 }
 
+/// Whether a session of these bytes is refused, with so much written.
+fn is_refused(
+    alloc: Global,
+    parts: &[&[u8]],
+    written: &[u8],
+    room: &mut [u8],
+) -> Result<bool, AllocError>
+    requires { MAX_PAYLOAD ≤ length room.old }
+    ensures { length room.new ≡ length room.old }
+{
+    let mut source = source_of(alloc, parts, 4096)?;
+    let mut sink = sink_for(alloc, 9);
+    let end = run(alloc, None, &mut source, &mut sink, room)?;
+    Ok(end == Some(SessionEnd::Refused) && sink.bytes.as_slice() == written)
+}
+
 #[test]
-fn what_is_not_served_ends_the_session_as_refused(rt: HostRuntime) -> Result<(), Fail> {
+fn a_read_past_the_end_is_refused(rt: HostRuntime) -> Result<(), Fail> {
     let mut room = vec![in rt.alloc(); 0; 33_554_432]?;
-    let past_the_end =
+    let bytes =
         b"\x25\x60\x95\x13\x00\x00\x00\x00\x00\x00\x00\x00\x00\x00\x00\x02\x00\x00\x00\x00\x00\x00\xff\xff\x00\x00\x00\x02";
-    let with_a_flag =
-        b"\x25\x60\x95\x13\x00\x01\x00\x00\x00\x00\x00\x00\x00\x00\x00\x02\x00\x00\x00\x00\x00\x00\x00\x00\x00\x00\x00\x02";
-    let a_flush =
-        b"\x25\x60\x95\x13\x00\x00\x00\x03\x00\x00\x00\x00\x00\x00\x00\x02\x00\x00\x00\x00\x00\x00\x00\x00\x00\x00\x00\x00";
-    let wrong_magic = b"\x25\x60\x95\x14";
-    let cut = b"\x25\x60\x95\x13\x00";
-    for last in [
-        past_the_end.as_slice(),
-        with_a_flag.as_slice(),
-        a_flush.as_slice(),
-        wrong_magic.as_slice(),
-        cut.as_slice(),
-    ] {
-        let mut source = source_of(rt.alloc(), &[OPENING, last], 4096)?;
-        let mut sink = sink_for(rt.alloc(), 9);
-        assert_eq!(rt;
-            run(
-                rt.alloc(),
-                None,
-                &mut source,
-                &mut sink,
-                room.as_mut_slice()
-            )?,
-            SessionEnd::Refused
-        );
-        assert!(rt; sink.bytes.as_slice() == HANDSHAKE);
-    }
+    let refused = is_refused(
+        rt.alloc(),
+        &[OPENING, bytes.as_slice()],
+        HANDSHAKE,
+        room.as_mut_slice(),
+    )?;
+    assert!(rt; refused);
     Ok(())
 }
 
 #[test]
-fn another_option_than_export_name_with_the_empty_name_is_refused(
-    rt: HostRuntime,
-) -> Result<(), Fail> {
+fn a_read_with_a_flag_is_refused(rt: HostRuntime) -> Result<(), Fail> {
     let mut room = vec![in rt.alloc(); 0; 33_554_432]?;
-    let list = b"\x00\x00\x00\x03IHAVEOPT\x00\x00\x00\x03\x00\x00\x00\x00";
-    let named = b"\x00\x00\x00\x03IHAVEOPT\x00\x00\x00\x01\x00\x00\x00\x01a";
-    let flags = b"\x00\x00\x00\x04";
-    for opening in [list.as_slice(), named.as_slice(), flags.as_slice()] {
-        let mut source = source_of(rt.alloc(), &[opening, READS], 4096)?;
-        let mut sink = sink_for(rt.alloc(), 9);
-        assert_eq!(rt;
-            run(
-                rt.alloc(),
-                None,
-                &mut source,
-                &mut sink,
-                room.as_mut_slice()
-            )?,
-            SessionEnd::Refused
-        );
-        assert!(rt; sink.bytes.as_slice() == b"NBDMAGICIHAVEOPT\x00\x03".as_slice());
-    }
+    let bytes =
+        b"\x25\x60\x95\x13\x00\x01\x00\x00\x00\x00\x00\x00\x00\x00\x00\x02\x00\x00\x00\x00\x00\x00\x00\x00\x00\x00\x00\x02";
+    let refused = is_refused(
+        rt.alloc(),
+        &[OPENING, bytes.as_slice()],
+        HANDSHAKE,
+        room.as_mut_slice(),
+    )?;
+    assert!(rt; refused);
     Ok(())
 }
 
 #[test]
-fn a_stream_that_fails_ends_the_session_so(rt: HostRuntime) -> Result<(), Fail> {
+fn a_flush_is_refused(rt: HostRuntime) -> Result<(), Fail> {
+    let mut room = vec![in rt.alloc(); 0; 33_554_432]?;
+    let bytes =
+        b"\x25\x60\x95\x13\x00\x00\x00\x03\x00\x00\x00\x00\x00\x00\x00\x02\x00\x00\x00\x00\x00\x00\x00\x00\x00\x00\x00\x00";
+    let refused = is_refused(
+        rt.alloc(),
+        &[OPENING, bytes.as_slice()],
+        HANDSHAKE,
+        room.as_mut_slice(),
+    )?;
+    assert!(rt; refused);
+    Ok(())
+}
+
+#[test]
+fn an_input_that_is_cut_is_refused(rt: HostRuntime) -> Result<(), Fail> {
+    let mut room = vec![in rt.alloc(); 0; 33_554_432]?;
+    let bytes = b"\x25\x60\x95\x13\x00";
+    let refused = is_refused(
+        rt.alloc(),
+        &[OPENING, bytes.as_slice()],
+        HANDSHAKE,
+        room.as_mut_slice(),
+    )?;
+    assert!(rt; refused);
+    Ok(())
+}
+
+#[test]
+fn an_option_to_list_is_refused(rt: HostRuntime) -> Result<(), Fail> {
+    let mut room = vec![in rt.alloc(); 0; 33_554_432]?;
+    let bytes = b"\x00\x00\x00\x03IHAVEOPT\x00\x00\x00\x03\x00\x00\x00\x00";
+    let refused = is_refused(
+        rt.alloc(),
+        &[bytes.as_slice(), READS],
+        GREETING,
+        room.as_mut_slice(),
+    )?;
+    assert!(rt; refused);
+    Ok(())
+}
+
+#[test]
+fn another_name_than_the_empty_one_is_refused(rt: HostRuntime) -> Result<(), Fail> {
+    let mut room = vec![in rt.alloc(); 0; 33_554_432]?;
+    let bytes = b"\x00\x00\x00\x03IHAVEOPT\x00\x00\x00\x01\x00\x00\x00\x01a";
+    let refused = is_refused(
+        rt.alloc(),
+        &[bytes.as_slice(), READS],
+        GREETING,
+        room.as_mut_slice(),
+    )?;
+    assert!(rt; refused);
+    Ok(())
+}
+
+#[test]
+fn a_source_that_fails_ends_the_session_so(rt: HostRuntime) -> Result<(), Fail> {
     let mut room = vec![in rt.alloc(); 0; 33_554_432]?;
     let mut source = source_of(rt.alloc(), &[OPENING, READS], 4096)?;
     source.fails = true;
     let mut sink = sink_for(rt.alloc(), 9);
-    assert_eq!(rt;
-        run(
-            rt.alloc(),
-            None,
-            &mut source,
-            &mut sink,
-            room.as_mut_slice()
-        )?,
-        SessionEnd::ReadFault
-    );
+    let end = run(
+        rt.alloc(),
+        None,
+        &mut source,
+        &mut sink,
+        room.as_mut_slice(),
+    )?;
+    assert_eq!(rt; end, Some(SessionEnd::ReadFault));
     let wanted = joined(rt.alloc(), &[HANDSHAKE, REPLIES])?;
     assert!(rt; sink.bytes == wanted);
-    let mut again = source_of(rt.alloc(), &[OPENING, READS, DISCONNECT], 4096)?;
-    let mut full = sink_for(rt.alloc(), 3);
-    assert_eq!(rt;
-        run(rt.alloc(), None, &mut again, &mut full, room.as_mut_slice())?,
-        SessionEnd::WriteFault
-    );
-    let wanted = joined(
+    Ok(())
+}
+
+#[test]
+fn a_sink_that_fails_ends_the_session_so(rt: HostRuntime) -> Result<(), Fail> {
+    let mut room = vec![in rt.alloc(); 0; 33_554_432]?;
+    let mut source = source_of(rt.alloc(), &[OPENING, READS, DISCONNECT], 4096)?;
+    let mut sink = sink_for(rt.alloc(), 3);
+    let end = run(
         rt.alloc(),
-        &[
-            HANDSHAKE,
-            b"\x67\x44\x66\x98\x00\x00\x00\x00\x00\x00\x00\x00\x00\x00\x00\x03".as_slice(),
-        ],
+        None,
+        &mut source,
+        &mut sink,
+        room.as_mut_slice(),
     )?;
-    assert!(rt; full.bytes == wanted);
+    assert_eq!(rt; end, Some(SessionEnd::WriteFault));
+    let head = b"\x67\x44\x66\x98\x00\x00\x00\x00\x00\x00\x00\x00\x00\x00\x00\x03";
+    let wanted = joined(rt.alloc(), &[HANDSHAKE, head.as_slice()])?;
+    assert!(rt; sink.bytes == wanted);
     Ok(())
 }

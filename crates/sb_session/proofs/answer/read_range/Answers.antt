@@ -1,8 +1,7 @@
-use Rattle.std.proofs.Common.{rules, arith, refl, sym, subst, ap, ◌∙◌, ◌≡◌, ◌≤◌, ◌+◌, ◌-◌, ◌++◌, ◌∷◌, [], List, length, append_assoc, Err}
+use Rattle.std.proofs.Common.{rules, arith, refl, sym, subst, ap, ◌∙◌, ◌≤◌, ◌+◌, ◌-◌, ◌++◌, ◌∷◌, [], length, append_assoc, Err}
 use Rattle.std.proofs.lemmas.Slice.{overwrites}
 use borrow.Rule.Slice.PartMut.{put_mid}
 use Rattle.sb_base.specs.declared.geometry.Geometry.{Geometry}
-use Rattle.sb_base.specs.declared.part.Part.{Part}
 use Rattle.sb_base.specs.Ranges.{parts_of}
 use Rattle.sb_session.specs.Answers.{ReadsRange}
 use Rattle.sb_session.proofs.Reading.{range_none, range_more, range_stops, part_within, length_more, length_piece}

@@ -1,5 +1,5 @@
-use Rattle.std.proofs.Common.{◌∙◌, ◌+◌, arith, refl, inl, inr}
-use Rattle.sb_session.proofs.Joins.{serves_nothing, serves_both, stopped_after, serves_spent}
+use Rattle.std.proofs.Common.{◌∙◌, ◌+◌, arith, refl, inr}
+use Rattle.sb_session.proofs.Joins.{serves_nothing, serves_both, stopped_after}
 use Rattle.sb_session.proofs.transmission.transmit.Goals as goal
 
 pub loop-count-init : goal.loop-count-init

@@ -1,6 +1,5 @@
-use Rattle.std.proofs.Common.{rules, sym, true, false, ◌≡◌}
+use Rattle.std.proofs.Common.{rules}
 use Rattle.sb_nbd.specs.RequestReading.{request_in}
-use Rattle.sb_session.specs.Goals.{is_served, is_disc}
 use Rattle.sb_session.proofs.Turning.{reading_stops, disc_stops, unserved_stops, serves_one, writing_stops}
 use Rattle.sb_session.proofs.transmission.turn.Goals as goal
 
