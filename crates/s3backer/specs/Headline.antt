@@ -86,9 +86,9 @@ module _ {L C R S : Type 0} (log : L → Option (List Call)) (ticks : C → Opti
     pub ended : SessionEnd
     pub course :
         (Unopened geometry TRANSMISSION_FLAGS (left input) (left input') (held output) (held output') ended
-            × (entries ≡ []) × (calls ≡ []))
+        × (entries ≡ []) × (calls ≡ []))
         ⊎ Served geometry TRANSMISSION_FLAGS (left input) (left input') (held output) (held output') ended
-            entries calls
+        entries calls
     pub read_cause : ended ≡ end.ReadFault → Rose (read_faults input) (read_faults input')
     pub write_cause : ended ≡ end.WriteFault → Rose (write_faults output) (write_faults output')
     pub status_is : status ≡ session_status ended
