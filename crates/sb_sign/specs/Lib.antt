@@ -1,0 +1,5 @@
+pub mod Hmac
+pub mod Encoding
+pub mod Credentials
+pub mod Date
+pub mod Requests
