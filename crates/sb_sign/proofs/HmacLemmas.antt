@@ -1,6 +1,6 @@
 -- Facts on blocks under a pad.
-use Rattle.std.proofs.Common.{◌≡◌, ℕ, zero, suc, ◌+◌, ◌-◌, ◌<◌, List, [], ◌∷◌, ◌++◌, length, take, drop, get_or, refl, sym, ap, ◌∙◌, arith}
-use Rattle.std.specs.Prelude.{map, replicate, bit_xor}
+use Rattle.std.proofs.Common.{◌≡◌, ℕ, zero, suc, ◌+◌, ◌-◌, ◌<◌, List, [], ◌∷◌, ◌++◌, length, take, drop, get_or, refl, sym, ap, ◌∙◌}
+use Rattle.std.specs.Prelude.{replicate, bit_xor}
 use Rattle.std.specs.Int.Bits.{xor_zero_l}
 use Rattle.std.proofs.lemmas.List.{drop-replicate, length-replicate, map-append, take_more}
 use Rattle.std.proofs.Math.Seq.{take-length}

@@ -1,10 +1,11 @@
 -- The date of a request.
-use Rattle.std.specs.Prelude.{◌≡◌, ℕ, ◌+◌, ◌*◌, ◌/◌, ◌%◌, ◌<◌, List, [], ◌∷◌, ◌++◌, codes, ℤ, pos, ◌+ℤ◌, ◌*ℤ◌}
-use Rattle.jiff_core.specs.Calendar.{IsBetween, IsCivilDate, days_from_civil}
+use Rattle.std.specs.Prelude.{◌≡◌, ℕ, ◌+◌, ◌*◌, ◌/◌, ◌%◌, ◌<◌, List, [], ◌∷◌, ◌++◌, codes, ℤ, pos, unsigned_abs, ◌+ℤ◌, ◌*ℤ◌, ◌<ℤ◌, ◌⊎◌}
+use Rattle.jiff_core.specs.declared.civil.datetime.DateTime.{DateTime}
+use Rattle.jiff_core.specs.Calendar.{IsCivilDate, days_from_civil}
 
--- the moments that have a date: the seconds from 1970 through 9998, in UTC
-abbrev pub HasDate : ℤ → Type 0
-HasDate moment = IsBetween (pos 0) (pos 253_370_764_799) moment
+-- the moments without a date: the seconds before 1970 and after 9998, in UTC
+abbrev pub HasNoDate : ℤ → Type 0
+HasNoDate moment = (moment <ℤ pos 0) ⊎ (pos 253_370_764_799 <ℤ moment)
 
 -- the last two decimal digits of a number
 abbrev pub two_digits : ℕ → List ℕ
@@ -33,6 +34,17 @@ abbrev pub date_text_of : Civil → List ℕ
 date_text_of civil =
     two_digits (civil.year / 100) ++ two_digits civil.year ++ two_digits civil.month ++ two_digits civil.day ++ codes "T"
     ++ two_digits civil.hour ++ two_digits civil.minute ++ two_digits civil.second ++ codes "Z"
+
+-- the day and the time of day of a `DateTime`
+abbrev pub civil_of : DateTime → Civil
+civil_of dt = record {
+  year = unsigned_abs dt.date.year;
+  month = dt.date.month;
+  day = dt.date.day;
+  hour = dt.time.hour;
+  minute = dt.time.minute;
+  second = dt.time.second;
+}
 
 -- a text is the date of a moment
 pub record IsDateOf (moment : ℤ) (date : List ℕ) : Type 0 where

@@ -17,10 +17,13 @@ method_text Put = codes "PUT"
 method_text Head = codes "HEAD"
 method_text Delete = codes "DELETE"
 
+-- how many headers at the front have names that aren't after this one, in byte order
+abbrev pub place_of_name : List Pair → List ℕ → ℕ
+place_of_name headers name = prefix_len (λ other. is_le (slice_cmp nat_cmp other.name name)) headers
+
 -- headers in byte order of their names, with one more in its place
 unfoldable pub with_header : List Pair → Pair → List Pair
-with_header headers header =
-    insert headers (prefix_len (λ other. is_le (slice_cmp nat_cmp other.name header.name)) headers) header
+with_header headers header = insert headers (place_of_name headers header.name) header
 
 -- the signed headers: those of the request, the payload's hash and the date, in byte order of their names
 unfoldable pub signed_headers_of : List Pair → List ℕ → List ℕ → List Pair

@@ -1,4 +1,3 @@
-use Rattle.std.proofs.Common.{ℕ, ◌||◌, ◌==◌}
 use Rattle.std.specs.Char.{is_ascii_alphanumeric}
 use Rattle.percent_encoding.specs.declared.ascii_set.TheConstants.{NON_ALPHANUMERIC}
 use Rattle.sb_sign.proofs.EncodingLemmas.{contains-non_alphanumeric, contains_without}
