@@ -1,0 +1,3 @@
+pub mod DateFacts
+pub mod EncodingLemmas
+pub mod HmacLemmas

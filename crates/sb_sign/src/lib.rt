@@ -1,0 +1,17 @@
+//! AWS Signature Version 4 in the Authorization header, for S3.
+#![tactic(auto)]
+
+mod date;
+mod encoding;
+mod headers;
+mod hmac;
+mod request;
+mod signer;
+
+pub use encoding::{content_md5, encoded_path, encoded_query};
+pub use hmac::hmac_sha256;
+pub use request::{Method, Pair, Request};
+pub use signer::{Authorization, SignFault, Signer};
+
+#[cfg(test)]
+mod tests;
