@@ -1,10 +1,10 @@
 -- What a run of the program promises, of one list of entries and one list of calls. Lists are newest first.
-use Rattle.std.specs.Prelude.{ℕ, ◌≡◌, ◌≢◌, ◌≤◌, ◌⊎◌, ◌+◌, List, [], ◌∷◌, ◌++◌, Option, Some, None, IfSome, codes, map}
+use Rattle.std.specs.Prelude.{ℕ, Bool, ◌≡◌, ◌≢◌, ◌≤◌, ◌⊎◌, ◌+◌, List, [], ◌∷◌, ◌++◌, Option, Some, None, IfSome, codes, map}
 use Rattle.sb_base.specs.declared.geometry.Geometry.{Geometry}
 use Rattle.sb_base.specs.declared.entry.Entry.{Entry}
 use Rattle.sb_world.specs.Told.{Gains, Rose}
 use Rattle.sb_world.specs.Streams.{Holds}
-use Rattle.sb_world.specs.Benches.{BenchParts, with_links}
+use Rattle.sb_world.specs.Benches.{BenchParts, with_links, shut_bench}
 use Rattle.sb_world.specs.declared.clock.Tick.{Tick}
 use Rattle.sb_world.specs.declared.link.Call.{Call}
 use Rattle.sb_history.specs.Contents.{Start, FillBlocks}
@@ -125,12 +125,12 @@ module _ {L C R S : Type 0} (log : L → Option (List Call)) (ticks : C → Opti
         before.output after.output before.errors after.errors told told' status
 
   -- a run on the world's next bench, which was shut then
-  pub record RunsBench (geometry : Geometry) (next last : Option (BenchParts L C R S))
-      (told told' : Option (List Entry)) (status : ℕ) : Type 0 where
+  pub record RunsBench (geometry : Geometry) (next : Option (BenchParts L C R S)) (tells : Bool)
+      (last : Option (BenchParts L C R S)) (told told' : Option (List Entry)) (status : ℕ) : Type 0 where
     pub before : BenchParts L C R S
     pub after : BenchParts L C R S
     pub next_is : IfSome next (λ parts. before ≡ with_links 1 parts)
-    pub last_is : IfSome last (λ parts. parts ≡ after)
+    pub last_is : last ≡ shut_bench tells after
     pub bench : ServesBench geometry before after told told' status
 
 -- a line that begins so was said
@@ -172,18 +172,18 @@ pub record LacksMemoryEarly (told told' : Option (List Entry)) (said said' : Opt
 module _ {L C R S : Type 0} (log : L → Option (List Call)) (ticks : C → Option (List Tick)) (left : R → Option (List ℕ))
     (read_faults : R → ℕ) (held : S → Option (List ℕ)) (write_faults : S → ℕ) where
   -- the words were taken, and the world's next bench served
-  pub record ServesWords (words : List (List ℕ)) (next last' : Option (BenchParts L C R S))
-      (told told' : Option (List Entry)) (said said' : Option (List (List ℕ))) (status : ℕ) : Type 0 where
+  pub record ServesWords (words : List (List ℕ)) (next : Option (BenchParts L C R S)) (tells : Bool)
+      (last' : Option (BenchParts L C R S)) (told told' : Option (List Entry)) (said said' : Option (List (List ℕ))) (status : ℕ) : Type 0 where
     pub geometry : Geometry
     pub taken : IsTaken words geometry
-    pub runs : RunsBench log ticks left read_faults held write_faults geometry next last' told told' status
+    pub runs : RunsBench log ticks left read_faults held write_faults geometry next tells last' told told' status
     pub quiet : said' ≡ said
 
   -- how a run ends
-  abbrev pub RunEnds : List (List ℕ) → ℕ → ℕ → Option (BenchParts L C R S) → Option (BenchParts L C R S)
+  abbrev pub RunEnds : List (List ℕ) → ℕ → ℕ → Option (BenchParts L C R S) → Bool → Option (BenchParts L C R S)
       → Option (List Entry) → Option (List Entry) → Option (List (List ℕ)) → Option (List (List ℕ)) → ℕ → Type 0
-  RunEnds words faults faults' next last' told told' said said' status =
+  RunEnds words faults faults' next tells last' told told' said said' status =
       RefusesWords words told told' said said' status
       ⊎ (HasNoBench words faults faults' told told' said said' status
       ⊎ (LacksMemoryEarly told told' said said' status
-      ⊎ ServesWords words next last' told told' said said' status))
+      ⊎ ServesWords words next tells last' told told' said said' status))

@@ -2,7 +2,7 @@
 //!
 //! These adapters are trusted: each counts its faults, and tells nothing of bytes or times.
 
-ghost use Rattle.std.specs.Prelude.{◌≡◌, ◌≤◌, ◌^◌, None, IfOk, vec_len};
+ghost use Rattle.std.specs.Prelude.{◌≡◌, ◌≤◌, ◌^◌, None, false, IfOk, vec_len};
 
 use sb_fakes::PlainStore;
 use sb_world::{Bench, Clock, MakeFault, ReadFault, Sink, Source, World, WriteFault};
@@ -158,6 +158,8 @@ impl World for HostWorld {
     ghost faults = { λ world. world.faults };
 
     ghost next = { λ _. None };
+
+    ghost tells = { λ _. false };
 
     ghost last = { λ _. None };
 

@@ -187,7 +187,7 @@ pub fn run<W: World, T: Tape + Drop>(
 where
     W::Link: Drop,
     W::Clock: Drop,
-    ensures { RunEnds W.Link.log W.Clock.ticks W.Source.left W.Source.faults W.Sink.held W.Sink.faults (map string_bytes words.now) (W.faults world.old) (W.faults world.new) (W.next world.old) (W.last world.new) (T.told tape) (T.told result.tape) (W.said world.old) (W.said world.new) result.status }
+    ensures { RunEnds W.Link.log W.Clock.ticks W.Source.left W.Source.faults W.Sink.held W.Sink.faults (map string_bytes words.now) (W.faults world.old) (W.faults world.new) (W.next world.old) (W.tells world.old) (W.last world.new) (T.told tape) (T.told result.tape) (W.said world.old) (W.said world.new) result.status }
 {
     let geometry = match plan(alloc, words) {
         Ok(geometry) => geometry,

@@ -1,6 +1,6 @@
 //! A world in memory.
 
-ghost use Rattle.std.specs.Prelude.{◌≡◌, ◌≤◌, ◌<◌, Some, [], true, IfOk, IfSome, take, vec_len};
+ghost use Rattle.std.specs.Prelude.{◌≡◌, ◌≤◌, ◌<◌, Some, [], true, IfOk, take, vec_len};
 ghost use Rattle.sb_fakes.specs.Worlds.{next_of, told_list};
 
 use crate::clock::HandClock;
@@ -95,6 +95,8 @@ impl<L: Link + Drop> World for MemoryWorld<L> {
 
     ghost next = { λ world. next_of world.links.items world.clocks.items world.inputs.items world.sinks.items };
 
+    ghost tells = { λ _. true };
+
     ghost last = { λ world. world.last };
 
     ghost said = { λ world. told_list world.said.items world.said_whole };
@@ -117,7 +119,7 @@ impl<L: Link + Drop> World for MemoryWorld<L> {
     }
 
     fn shut(&mut self, bench: MemoryBench<L>)
-        ensures last { IfSome self.new.last (λ told. told ≡ bench) }
+        ensures last { self.new.last ≡ Some bench }
         ensures faults { self.old.faults ≤ self.new.faults }
         ensures frame { told_list self.new.said.items self.new.said_whole ≡ told_list self.old.said.items self.old.said_whole }
     {

@@ -1,4 +1,4 @@
-pub mod Streaming
+pub mod Filling
 pub mod RequestParts
 pub mod OptionParts
 pub mod OneForm

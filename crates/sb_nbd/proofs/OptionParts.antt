@@ -7,7 +7,7 @@ use Rattle.sb_nbd.specs.declared.end.NbdEnd.{NbdEnd}
 use Rattle.sb_nbd.specs.declared.end.NbdEnd.TheVariants.{Ended, Cut, BadMagic, BadFlags, TooBig, ReadFault, WriteFault}
 use Rattle.sb_nbd.specs.Options.{option_magic_bytes, head_bytes, FitsHead}
 use Rattle.sb_nbd.specs.OptionReading.{StopsOption, ReadsHead, ReadsOptionPayload}
-use Rattle.sb_nbd.proofs.Streaming.{takes_both}
+use Rattle.sb_world.proofs.Streaming.{takes_both}
 
 pub length-option_magic_bytes : length option_magic_bytes ≡ 8
 unfolding option_magic_bytes

@@ -7,7 +7,7 @@ use Rattle.sb_nbd.specs.declared.end.NbdEnd.{NbdEnd}
 use Rattle.sb_nbd.specs.declared.end.NbdEnd.TheVariants.{Ended, Cut, BadMagic, BadFlags, TooBig, ReadFault, WriteFault}
 use Rattle.sb_nbd.specs.Requests.{magic_bytes, fields_bytes, FitsFields}
 use Rattle.sb_nbd.specs.RequestReading.{StopsRequest, ReadsFields, ReadsPayload}
-use Rattle.sb_nbd.proofs.Streaming.{takes_both}
+use Rattle.sb_world.proofs.Streaming.{takes_both}
 
 pub length-magic_bytes : length magic_bytes ≡ 4
 unfolding magic_bytes

@@ -6,7 +6,7 @@ use Rattle.sb_world.specs.Streams.{Takes}
 use Rattle.sb_world.specs.declared.link.Call.{Call}
 use Rattle.sb_nbd.specs.Requests.{request_bytes}
 use Rattle.sb_nbd.specs.Replies.{reply_bytes}
-use Rattle.sb_nbd.proofs.Streaming.{takes_both, takes_nothing, holds_both, holds_nothing}
+use Rattle.sb_world.proofs.Streaming.{takes_both, takes_nothing, holds_both, holds_nothing}
 use Rattle.sb_session.specs.declared.end.SessionEnd.{SessionEnd}
 use Rattle.sb_session.specs.declared.end.SessionEnd.TheVariants.{Spent}
 use Rattle.sb_session.specs.Transcripts.{Exchange, IsTranscript, entries_of, calls_of, asking_bytes, replying_bytes}

@@ -12,7 +12,7 @@ use Rattle.sb_nbd.specs.declared.greeting.TheConstants.{MAX_FLAGS}
 use Rattle.sb_nbd.specs.Options as options
 use Rattle.sb_nbd.specs.OptionReading.{StopsOption, option_in}
 use Rattle.sb_nbd.specs.Greetings.{greeting_bytes, export_bytes, StopsFlags}
-use Rattle.sb_nbd.proofs.Streaming.{takes_both, takes_nothing, holds_both}
+use Rattle.sb_world.proofs.Streaming.{takes_both, takes_nothing, holds_both}
 use Rattle.sb_session.specs.declared.end.SessionEnd.{SessionEnd}
 use Rattle.sb_session.specs.declared.end.SessionEnd.TheVariants.{Refused, WriteFault}
 use Rattle.sb_session.specs.Handshakes.{end_of, export_option, opening_bytes, wants_zeroes, Opened, Unopened}

@@ -9,7 +9,7 @@ use Rattle.sb_nbd.specs.declared.end.NbdEnd.TheVariants as nbd
 use Rattle.sb_nbd.specs.Requests.{Request, IsRequest, request_bytes}
 use Rattle.sb_nbd.specs.RequestReading.{StopsRequest}
 use Rattle.sb_nbd.specs.Replies.{reply_bytes}
-use Rattle.sb_nbd.proofs.Streaming.{holds_nothing}
+use Rattle.sb_world.proofs.Streaming.{holds_nothing}
 use Rattle.sb_session.specs.declared.end.SessionEnd.{SessionEnd}
 use Rattle.sb_session.specs.declared.end.SessionEnd.TheVariants.{Disconnected, Refused, WriteFault, Spent}
 use Rattle.sb_session.specs.Goals.{is_served, is_disc}

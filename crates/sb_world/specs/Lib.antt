@@ -2,3 +2,4 @@ pub mod Told
 pub mod Streams
 pub mod Calls
 pub mod Benches
+pub mod Wires

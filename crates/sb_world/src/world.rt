@@ -1,8 +1,8 @@
 //! What a program is given.
 
-ghost use Rattle.std.specs.Prelude.{◌≡◌, ◌≤◌, ℕ, List, [], ◌∷◌, Option, IfOk, IfSome, IsErrOf, length};
+ghost use Rattle.std.specs.Prelude.{◌≡◌, ◌≤◌, ℕ, Bool, List, [], ◌∷◌, Option, IfOk, IfSome, IsErrOf, length};
 ghost use Rattle.sb_world.specs.Told.{Gains, CountsFaults};
-ghost use Rattle.sb_world.specs.Benches.{BenchParts, with_links};
+ghost use Rattle.sb_world.specs.Benches.{BenchParts, with_links, shut_bench};
 
 use crate::clock::Clock;
 use crate::link::Link;
@@ -52,6 +52,9 @@ pub trait World {
     /// What its next bench is made of, where it tells that: the links are the first of these.
     ghost next: { Self → Option (BenchParts Self.Link Self.Clock Self.Source Self.Sink) };
 
+    /// Whether it tells the bench that was shut last. That never changes.
+    ghost tells: { Self → Bool };
+
     /// The bench that was shut last, where it tells it.
     ghost last: { Self → Option (BenchParts Self.Link Self.Clock Self.Source Self.Sink) };
 
@@ -66,17 +69,17 @@ pub trait World {
         ensures links { IfOk result (λ bench. length bench.links ≡ links) }
         ensures next { IfOk result (λ bench. IfSome (next self.old) (λ told. bench ≡ with_links links told)) }
         ensures cause { CountsFaults (faults self.old) (faults self.new) (IsErrOf result MakeFault.Store) }
-        ensures frame { (last self.new ≡ last self.old) × (said self.new ≡ said self.old) };
+        ensures frame { (tells self.new ≡ tells self.old) × (last self.new ≡ last self.old) × (said self.new ≡ said self.old) };
 
     /// Takes a bench back.
     fn shut(&mut self, bench: Bench<Self::Link, Self::Clock, Self::Source, Self::Sink>)
-        ensures last { IfSome (last self.new) (λ told. told ≡ bench) }
+        ensures last { last self.new ≡ shut_bench (tells self.old) bench }
         ensures faults { faults self.old ≤ faults self.new }
-        ensures frame { said self.new ≡ said self.old };
+        ensures frame { (tells self.new ≡ tells self.old) × (said self.new ≡ said self.old) };
 
     /// Says a line on standard error. A fault of that is left unsaid.
     fn say(&mut self, line: &[u8])
         ensures told { Gains (said self.old) (said self.new) (line.now ∷ []) }
         ensures faults { faults self.old ≤ faults self.new }
-        ensures frame { last self.new ≡ last self.old };
+        ensures frame { (tells self.new ≡ tells self.old) × (last self.new ≡ last self.old) };
 }

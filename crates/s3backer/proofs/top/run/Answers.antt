@@ -1,4 +1,5 @@
-use Rattle.std.proofs.Common.{◌∙◌, inr}
+use Rattle.std.proofs.Common.{◌∙◌, Bool, ap, inr}
+use Rattle.sb_world.specs.Benches.{shut_bench}
 use Rattle.s3backer.proofs.top.run.Goals as goal
 
 pub returns-in-Ok-bench : goal.returns-in-Ok-bench
@@ -10,8 +11,8 @@ returns-in-Ok-bench g c =
         before = c.in-Ok-bench.bench;
         after = c.serve_bench-status.result.2;
         next_is = c.in-Ok-bench.ensures.next;
-        last_is = c.shut.ensures.last;
+        last_is = c.shut.ensures.last ∙ ap (λ (t : Bool). shut_bench t c.serve_bench-status.result.2) c.bench.ensures.frame.0;
         bench = c.serve_bench-status.ensures;
       };
-      quiet = c.shut.ensures.frame ∙ c.bench.ensures.frame.1;
+      quiet = c.shut.ensures.frame.1 ∙ c.bench.ensures.frame.2;
     })))

@@ -1,7 +1,7 @@
 use Rattle.std.proofs.Common.{Err, subst}
 use Rattle.sb_world.specs.Streams.{Holds, WriteHolds}
 use Rattle.sb_nbd.specs.Greetings.{padding}
-use Rattle.sb_nbd.proofs.Streaming.{write_both, write_failed}
+use Rattle.sb_world.proofs.Streaming.{write_both, write_failed}
 use Rattle.sb_nbd.proofs.greeting.write_export.Goals as goal
 
 pub returns-in-Ok-clause-told : goal.returns-in-Ok-clause-told
