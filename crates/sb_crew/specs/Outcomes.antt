@@ -1,5 +1,5 @@
 -- What the entries of a call of the disk came to. Entries and calls of the link are newest first.
-use Rattle.std.specs.Prelude.{ℕ, ◌≡◌, ◌⊎◌, List, [], ◌∷◌, ◌++◌, Option, Some, None, Result, Ok, Err, false}
+use Rattle.std.specs.Prelude.{ℕ, ◌≡◌, ◌<◌, ◌⊎◌, length, List, [], ◌∷◌, ◌++◌, Option, Some, None, Result, Ok, Err, false}
 use Rattle.std.specs.List.{AllByRecursion}
 use Rattle.sb_base.specs.declared.part.Part.{Part}
 use Rattle.sb_base.specs.declared.entry.Entry.{Entry}
@@ -86,17 +86,48 @@ abbrev pub HasCause : CallFault → List Entry → List Call → Type 0
 HasCause fault (entry ∷ entries) (call ∷ calls) = IsFailure entry.kind × (fault_of call ≡ Some (link_fault fault))
 HasCause fault entries calls = ⊥
 
--- a call read a part and gave these bytes, or it read nothing and has a cause
-abbrev pub ReadEnds : Part → List ℕ → List Entry → List Call → Result Unit CallFault → Type 0
-ReadEnds part bytes entries calls (Ok done) =
-    (outcomes_of entries ≡ ReadDone part ∷ []) × (bytes_read entries ≡ bytes)
-ReadEnds part bytes entries calls (Err fault) = (outcomes_of entries ≡ []) × HasCause fault entries calls
+-- a proper front of a goal was met, and then a call of the disk failed so
+pub record Stops (goal : List Outcome) (entries : List Entry) (calls : List Call) (fault : CallFault) : Type 0 where
+  pub missing : List Outcome
+  pub some : 0 < length missing
+  pub met : missing ++ outcomes_of entries ≡ goal
+  pub cause : HasCause fault entries calls
 
--- what a call that reads a part did
-pub record ReadDoes (did : List Entry → List Call → Type 0) (part : Part) (bytes : List ℕ)
-    (result : Result Unit CallFault) : Type 0 where
+-- what was done between two states of a disk and its desk: it ended so, and asked for no other blocks than those of
+-- these parts
+pub record Does (did : List Entry → List Call → Type 0) (parts : List Part)
+    (Ends : List Entry → List Call → Type 0) : Type 0 where
   pub entries : List Entry
   pub calls : List Call
   pub done : did entries calls
-  pub ends : ReadEnds part bytes entries calls result
-  pub asks : AsksOnly (part ∷ []) entries
+  pub ends : Ends entries calls
+  pub asks : AsksOnly parts entries
+
+-- a call read a part and gave these bytes, or it read nothing and has a cause
+abbrev pub ReadEnds : Part → List ℕ → Result Unit CallFault → List Entry → List Call → Type 0
+ReadEnds part bytes (Ok done) entries calls =
+    (outcomes_of entries ≡ ReadDone part ∷ []) × (bytes_read entries ≡ bytes)
+ReadEnds part bytes (Err fault) entries calls = (outcomes_of entries ≡ []) × HasCause fault entries calls
+
+abbrev pub ReadDoes : (List Entry → List Call → Type 0) → Part → List ℕ → Result Unit CallFault → Type 0
+ReadDoes did part bytes result = Does did (part ∷ []) (ReadEnds part bytes result)
+
+-- a call wrote these bytes to a part, or it wrote nothing and has a cause
+abbrev pub WriteEnds : Part → List ℕ → Result Unit CallFault → List Entry → List Call → Type 0
+WriteEnds part bytes (Ok done) entries calls = outcomes_of entries ≡ WriteDone part bytes ∷ []
+WriteEnds part bytes (Err fault) entries calls = (outcomes_of entries ≡ []) × HasCause fault entries calls
+
+abbrev pub WriteDoes : (List Entry → List Call → Type 0) → Part → List ℕ → Result Unit CallFault → Type 0
+WriteDoes did part bytes result = Does did (part ∷ []) (WriteEnds part bytes result)
+
+-- what a flush with this mark wants done
+abbrev pub flush_of : ℕ → List Outcome
+flush_of mark = FlushEnded mark ∷ FlushBegun mark ∷ []
+
+-- a flush began and ended with one mark, or it did not and has a cause
+abbrev pub FlushEnds : Result Unit CallFault → List Entry → List Call → Type 0
+FlushEnds (Ok done) entries calls = (mark : ℕ) × (outcomes_of entries ≡ flush_of mark)
+FlushEnds (Err fault) entries calls = (mark : ℕ) × Stops (flush_of mark) entries calls fault
+
+abbrev pub FlushDoes : (List Entry → List Call → Type 0) → Result Unit CallFault → Type 0
+FlushDoes did result = Does did [] (FlushEnds result)

@@ -5,7 +5,7 @@ ghost use Rattle.sb_base.specs.declared.entry.Entry.{Entry};
 ghost use Rattle.sb_base.specs.declared.geometry.Geometry.{Geometry};
 ghost use Rattle.sb_base.specs.Ranges.{IsPart};
 ghost use Rattle.sb_world.specs.declared.link.Call.{Call};
-ghost use Rattle.sb_crew.specs.Outcomes.{ReadDoes};
+ghost use Rattle.sb_crew.specs.Outcomes.{ReadDoes, WriteDoes, FlushDoes};
 
 use sb_base::{Geometry, Part};
 
@@ -50,4 +50,20 @@ pub trait Calls<K> {
         ensures did { ReadDoes (did self.old desk.old self.new desk.new) part out.new result }
         ensures geometry { geometry self.new ≡ geometry self.old }
         ensures length { length out.new ≡ length out.old };
+
+    /// Writes a part.
+    fn write(&mut self, desk: &mut K, part: Part, bytes: &[u8]) -> Result<(), CallFault>
+        requires ready { ready self.old desk.old }
+        requires part { IsPart (geometry self.old) part }
+        requires bytes { length bytes.now ≡ part.length }
+        ensures ready { ready self.new desk.new }
+        ensures did { WriteDoes (did self.old desk.old self.new desk.new) part bytes.now result }
+        ensures geometry { geometry self.new ≡ geometry self.old };
+
+    /// Has everything written back that was written before.
+    fn flush(&mut self, desk: &mut K) -> Result<(), CallFault>
+        requires { ready self.old desk.old }
+        ensures ready { ready self.new desk.new }
+        ensures did { FlushDoes (did self.old desk.old self.new desk.new) result }
+        ensures geometry { geometry self.new ≡ geometry self.old };
 }
