@@ -1,5 +1,5 @@
 -- How takings and writings join.
-use Rattle.std.proofs.Common.{ℕ, ◌≡◌, ◌∙◌, List, [], ◌++◌, Option, Some, Result, Ok, Err, append_assoc, append-nil, ap, sym}
+use Rattle.std.proofs.Common.{ℕ, ◌∙◌, List, [], ◌++◌, Option, Some, Result, Ok, Err, append_assoc, append-nil, ap, sym}
 use Rattle.sb_world.specs.Streams.{Takes, Holds, WriteHolds}
 
 pub takes_nothing : (now : Option (List ℕ)) → Takes now now []
