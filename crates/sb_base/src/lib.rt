@@ -17,7 +17,7 @@ pub use geometry::{Geometry, GeometryFault};
 pub use line::{Answer, Digest, Expect, Kind, Line, Why};
 pub use part::{Part, parts};
 pub use range::Parts;
-pub use settings::Settings;
+pub use settings::{Settings, SettingsFault};
 pub use size::{SizeFault, read_size};
 pub use text::Text;
 
