@@ -1,5 +1,6 @@
--- What a turn of a read did, by what the core answered.
-use Rattle.std.proofs.Common.{ℕ, ◌≡◌, Bool, true, false, nat_eq, if◌then◌else◌, List, [], ◌∷◌, ◌++◌, Option, Some, None, Result, Ok, Err, is_ok, is_none, refl, sym, ◌∙◌, ap, subst, inl}
+-- What a call did so far, after one turn more.
+use Rattle.std.proofs.Common.{ℕ, ◌≡◌, Bool, true, false, nat_eq, if◌then◌else◌, List, [], ◌∷◌, ◌++◌, Option, Some, None, Result, Ok, Err, IsSome, is_some, length, is_ok, is_none, refl, sym, ◌∙◌, ap, subst}
+use Rattle.std.specs.List.{AllByRecursion}
 use Rattle.std.proofs.lemmas.Bool.{eq-eqb}
 use Rattle.sb_base.specs.declared.geometry.Geometry.{Geometry}
 use Rattle.sb_base.specs.declared.part.Part.{Part}
@@ -15,28 +16,59 @@ use Rattle.sb_world.specs.declared.link.Got.{Got}
 use Rattle.sb_world.specs.declared.link.Got.TheVariants as got
 use Rattle.sb_world.specs.declared.link.LinkFault.{LinkFault}
 use Rattle.sb_world.specs.declared.link.LinkFault.TheVariants as link
-use Rattle.sb_world.specs.declared.link.GetReply.TheVariants as reply
 use Rattle.sb_world.specs.declared.link.Meta.{Meta}
 use Rattle.sb_history.specs.Contents.{is_zeros}
+use Rattle.sb_history.specs.Flushes.{flush_place, flush_place_after}
 use Rattle.sb_history.specs.Requests.{Replies, RequestLog, IsPutCall, meta_of, put_call}
 use Rattle.sb_core.specs.declared.machine.Core.{Core}
-use Rattle.sb_core.specs.declared.step.ReadStep.{ReadStep}
-use Rattle.sb_core.specs.declared.step.ReadStep.TheVariants as read
 use Rattle.sb_core.specs.declared.job.GetJob.{GetJob}
-use Rattle.sb_core.specs.declared.job.PutJob.{PutJob}
 use Rattle.sb_core.specs.Represents.{geometry_of}
-use Rattle.sb_core.specs.Steps.{read_entry}
 use Rattle.sb_crew.specs.declared.calls.CallFault.{CallFault}
-use Rattle.sb_crew.specs.declared.calls.CallFault.TheVariants.{StoreFault, Memory}
 use Rattle.sb_crew.specs.Names.{block_name}
 use Rattle.sb_crew.specs.Answers.{shown_for, fault_for, EndsAs}
 use Rattle.sb_crew.specs.Outcomes as outcome
-use Rattle.sb_crew.specs.Runs.{sizes_of, Runs, Did}
-use Rattle.sb_crew.specs.Turns.{DoesNothing, TurnEnds, TurnDoes, FetchDoes, StoreDoes}
-use Rattle.sb_crew.specs.Joins.{gains_nothing, runs_join}
+use Rattle.sb_crew.specs.Outcomes.{Outcome, outcomes_of, outcome_of, bytes_read, bytes_of, asked_of, blocks_asked, IsBlockOf, AsksOnly, HasCause, Does, FlushBegun}
+use Rattle.sb_crew.specs.Runs.{sizes_of, any_past, HasBegun, Runs, RunsWhere, Did, DidWhere}
+use Rattle.sb_crew.specs.Turns.{SoFar, FetchDoes, StoreDoes}
+use Rattle.sb_crew.specs.Joins.{gains_nothing, runs_join, did_join}
+use Rattle.sb_crew.proofs.OutcomeLemmas.{cause_stays}
+
+-- a kind of histories that goes on with each entry
+abbrev pub Lasts : (List Entry → Type 0) → Type 0
+Lasts Is = (entries past : List Entry) → Is past → Is (entries ++ past)
+
+pub any_lasts : Lasts any_past
+any_lasts entries past is = tt
+
+still_some : (t : Bool) (place : ℕ) (before : Option ℕ) → IsSome before → IsSome (if t then Some place else before)
+still_some true place before some = refl
+still_some false place before some = some
+
+-- a flush that has begun
+begun_after : (mark place : ℕ) (of : EntryKind) (before : Option ℕ) → IsSome before
+    → IsSome (flush_place_after mark place of before)
+begun_after mark place (kind.FlushBegin of) before some = still_some (nat_eq of mark) place before some
+begun_after mark place of before some = some
+
+pub begun_lasts : (mark : ℕ) → Lasts (HasBegun mark)
+begun_lasts mark [] past is = is
+begun_lasts mark (entry ∷ entries) past is =
+    begun_after mark (length (entries ++ past)) entry.kind (flush_place (entries ++ past) mark)
+    (begun_lasts mark entries past is)
+
+-- the entry of an event of a disk on one thread
+abbrev pub event : ℕ → EntryKind → Entry
+event reading of = record { pass = 1; reading = reading; kind = of }
+
+-- the entry of an event is another one, which it is equal to
+runs_of : {Is : List Entry → Type 0} {core core' : Core} {tape tape' : Option (List Entry)} {clock clock' : Option (List Tick)}
+    {entry other : Entry} → entry ≡ other → RunsWhere Is core core' tape tape' clock clock' (entry ∷ [])
+    → RunsWhere Is core core' tape tape' clock clock' (other ∷ [])
+runs_of {Is} {core} {core'} {tape} {tape'} {clock} {clock'} is runs =
+    subst (λ (e : Entry). RunsWhere Is core core' tape tape' clock clock' (e ∷ [])) is runs
 
 -- the link's log says what the entry says
-pub replies_fit : (result : Result Got LinkFault) (bytes : List ℕ) → Replies (shown_for result bytes) (get_reply result bytes)
+replies_fit : (result : Result Got LinkFault) (bytes : List ℕ) → Replies (shown_for result bytes) (get_reply result bytes)
 replies_fit (Ok got.Absent) bytes = refl
 replies_fit (Ok got.Bytes) bytes = refl
 replies_fit (Ok got.Same) bytes = refl
@@ -53,138 +85,257 @@ ended_so (Ok done) = refl
 ended_so (Err fault) = refl
 
 -- the calls of a put that ended, with its begin
-put_asked : (sizes : Meta) (block : ℕ) (content : List ℕ) (sent : Result Unit LinkFault) (pass pass' reading reading' : ℕ)
-    → RequestLog block_name (Some sizes) (record { pass = pass'; reading = reading'; kind = kind.PutEnd block (is_ok sent) } ∷ record { pass = pass; reading = reading; kind = kind.PutBegin block content } ∷ [])
+put_asked : (sizes : Meta) (block : ℕ) (content : List ℕ) (sent : Result Unit LinkFault) (reading later : ℕ)
+    → RequestLog block_name (Some sizes)
+    (event later (kind.PutEnd block (is_ok sent)) ∷ event reading (kind.PutBegin block content) ∷ [])
     (put_call (block_name block) (meta_of (Some sizes) block) content (fault_of sent) ∷ [])
-put_asked sizes block content sent pass pass' reading reading' =
-    let known : (if nat_eq block block then Some content else None) ≡ Some content = ap (λ (t : Bool). if t then Some content else None) (eq-eqb block block refl) in
+put_asked sizes block content sent reading later =
+    let known : (if nat_eq block block then Some content else None) ≡ Some content =
+    ap (λ (t : Bool). if t then Some content else None) (eq-eqb block block refl) in
     let calls = put_call (block_name block) (meta_of (Some sizes) block) content (fault_of sent) ∷ [] in
-    let P : Option (List ℕ) → Type 0 = λ put. IsPutCall (block_name block) (meta_of (Some sizes) block) put (is_ok sent) calls (λ earlier. earlier ≡ []) in
+    let P : Option (List ℕ) → Type 0 = λ put.
+    IsPutCall (block_name block) (meta_of (Some sizes) block) put (is_ok sent) calls (λ earlier. earlier ≡ []) in
     subst P (sym known) (fault_of sent, [], refl, ended_so sent, refl)
 
-module _ (core mid core' : Core) (tape tape1 tape' : Option (List Entry)) (log log' : Option (List Call)) (clock clock1 clock' : Option (List Tick)) where
-  abbrev RunsFirst : List Entry → Type 0
-  RunsFirst entries = Runs core mid tape tape1 clock clock1 entries
+-- a put that failed says its fault, as a delete or as a put
+put_fault : (zeros : Bool) (name : List ℕ) (meta : Option Meta) (content : List ℕ) (fault : Option LinkFault)
+    → outcome.fault_of (if zeros then call.Delete name fault else call.Put name content meta fault) ≡ fault
+put_fault true name meta content fault = refl
+put_fault false name meta content fault = refl
 
-  -- the read was answered
-  pub turn_done : (reading : ℕ) (part : Part) (out room : List ℕ) (step : ReadStep) → step ≡ read.Done → RunsFirst (read_entry 1 reading part out room step ∷ [])
-      → TurnDoes (Did core mid tape tape1 log log clock clock1) part out (Ok true)
-  turn_done reading part out room step is runs = record {
-    entries = record { pass = 1; reading = reading; kind = kind.Read part out } ∷ [];
-    calls = [];
-    done = record { runs = subst (λ (s : ReadStep). RunsFirst (read_entry 1 reading part out room s ∷ [])) is runs; asked = gains_nothing log; requests = refl };
-    ends = (refl, refl);
-    asks = record { asked = tt };
+-- the newest entry is a failure, and the newest call has its fault
+get_failed : (block : ℕ) (verify : Option (List ℕ)) (result : Result Got LinkFault) (bytes : List ℕ) (later : ℕ) (taken : Bool)
+    (fault : CallFault) (before : List Entry) → EndsAs {U = Unit {0}} result (Err fault)
+    → HasCause fault (event later (kind.GetEnd block (shown_for result bytes) verify taken) ∷ before)
+    (call.Get (block_name block) verify (get_reply result bytes) ∷ [])
+get_failed block verify (Ok value) bytes later taken fault before ends = absurd ends
+get_failed block verify (Err cause) bytes later taken fault before ends = (tt, same_fault cause fault ends)
+
+put_failed : (block : ℕ) (meta : Option Meta) (content : List ℕ) (sent : Result Unit LinkFault) (later : ℕ)
+    (fault : CallFault) (before : List Entry) → EndsAs {U = Unit {0}} sent (Err fault)
+    → HasCause fault (event later (kind.PutEnd block (is_ok sent)) ∷ before)
+    (put_call (block_name block) meta content (fault_of sent) ∷ [])
+put_failed block meta content (Ok value) later fault before ends = absurd ends
+put_failed block meta content (Err cause) later fault before ends =
+    (refl, put_fault (is_zeros content) (block_name block) meta content (Some cause) ∙ same_fault cause fault ends)
+
+-- the entries and the call of a GET
+abbrev pub get_entries : ℕ → GetJob → ℕ → Result Got LinkFault → List ℕ → Bool → List Entry
+get_entries reading job later result bytes taken =
+    event later (kind.GetEnd job.block (shown_for result bytes) job.verify taken)
+    ∷ event reading (kind.GetBegin job.block job.expect job.verify) ∷ []
+
+abbrev pub get_calls : GetJob → Result Got LinkFault → List ℕ → List Call
+get_calls job result bytes = call.Get (block_name job.block) job.verify (get_reply result bytes) ∷ []
+
+-- the entries and the call of a put
+abbrev pub put_entries : ℕ → ℕ → List ℕ → ℕ → Result Unit LinkFault → List Entry
+put_entries reading block content later sent =
+    event later (kind.PutEnd block (is_ok sent)) ∷ event reading (kind.PutBegin block content) ∷ []
+
+abbrev pub put_calls : Meta → ℕ → List ℕ → Result Unit LinkFault → List Call
+put_calls sizes block content sent = put_call (block_name block) (meta_of (Some sizes) block) content (fault_of sent) ∷ []
+
+-- a GET asks for its block
+get_asks : (parts : List Part) (before : List Entry) (reading : ℕ) (job : GetJob) (later : ℕ) (result : Result Got LinkFault)
+    (bytes : List ℕ) (taken : Bool) → AsksOnly parts before → IsBlockOf parts job.block
+    → AsksOnly parts (get_entries reading job later result bytes taken ++ before)
+get_asks parts before reading job later result bytes taken asks same = record { asked = (same, asks.asked) }
+
+-- what a run of events and calls did
+module _ {Then : List Entry → Type 0} {b c : Core} {tape1 tape2 : Option (List Entry)} {clock1 clock2 : Option (List Tick)} where
+  -- an event that asked for nothing
+  event_does : {log1 : Option (List Call)} {entry : Entry} (reading : ℕ) (of : EntryKind) → entry ≡ event reading of
+      → RequestLog block_name (Some (sizes_of (geometry_of b))) (event reading of ∷ []) []
+      → RunsWhere Then b c tape1 tape2 clock1 clock2 (entry ∷ [])
+      → DidWhere Then b c tape1 tape2 log1 log1 clock1 clock2 (event reading of ∷ []) []
+  event_does {log1} reading of is quiet runs =
+      record { runs = runs_of is runs; asked = gains_nothing log1; requests = quiet }
+
+  get_does : {d : Core} {tape3 : Option (List Entry)} {log1 log3 : Option (List Call)} {clock3 : Option (List Tick)}
+      {entry : Entry} {ended : Result Unit CallFault} (reading : ℕ) (job : GetJob)
+      → entry ≡ event reading (kind.GetBegin job.block job.expect job.verify)
+      → RunsWhere Then b c tape1 tape2 clock1 clock2 (entry ∷ [])
+      → (fetched : FetchDoes (Runs c d tape2 tape3 clock2 clock3) (Gains log1 log3) job.block job.verify ended)
+      → DidWhere Then b d tape1 tape3 log1 log3 clock1 clock3
+      (get_entries reading job fetched.reading fetched.got fetched.bytes fetched.taken)
+      (get_calls job fetched.got fetched.bytes)
+  get_does reading job is runs fetched = record {
+    runs = runs_join (λ past fits. tt) (runs_of is runs) fetched.ran;
+    asked = fetched.called;
+    requests =
+        (get_reply fetched.got fetched.bytes, [], refl, replies_fit fetched.got fetched.bytes, refl);
   }
 
+  put_does : {d : Core} {tape3 : Option (List Entry)} {log1 log3 : Option (List Call)} {clock3 : Option (List Tick)}
+      {entry : Entry} {ended : Result Unit CallFault} (reading block : ℕ) (content : List ℕ)
+      → entry ≡ event reading (kind.PutBegin block content)
+      → RunsWhere Then b c tape1 tape2 clock1 clock2 (entry ∷ [])
+      → (stored : StoreDoes (Runs c d tape2 tape3 clock2 clock3) (Gains log1 log3) (sizes_of (geometry_of b)) block content ended)
+      → DidWhere Then b d tape1 tape3 log1 log3 clock1 clock3 (put_entries reading block content stored.reading stored.sent)
+      (put_calls (sizes_of (geometry_of b)) block content stored.sent)
+  put_does reading block content is runs stored = record {
+    runs = runs_join (λ past fits. tt) (runs_of is runs) stored.ran;
+    asked = stored.called;
+    requests = put_asked (sizes_of (geometry_of b)) block content stored.sent reading stored.reading;
+  }
+
+-- what a call did so far, and then what these entries and calls of the link say
+module _ {Then : List Entry → Type 0} {met : List Outcome} {a b : Core} {tape tape1 : Option (List Entry)}
+    {log log1 : Option (List Call)} {clock clock1 : Option (List Tick)} {parts : List Part} where
+  did_more : {c : Core} {tape2 : Option (List Entry)} {log2 : Option (List Call)} {clock2 : Option (List Tick)}
+      {ys : List Entry} {vs : List Call} (before : SoFar Then met a b tape tape1 log log1 clock clock1 parts)
+      → DidWhere Then b c tape1 tape2 log1 log2 clock1 clock2 ys vs
+      → Did a c tape tape2 log log2 clock clock2 (ys ++ before.entries) (vs ++ before.calls)
+  did_more before more = did_join (λ past fits. before.leads past) before.done more
+
   -- another block left the cache
-  pub turn_dropped : (reading : ℕ) (part : Part) (out room : List ℕ) (step : ReadStep) (dropped : ℕ) → step ≡ read.Dropped dropped → RunsFirst (read_entry 1 reading part out room step ∷ [])
-      → TurnDoes (Did core mid tape tape1 log log clock clock1) part out (Ok false)
-  turn_dropped reading part out room step dropped is runs = record {
-    entries = record { pass = 1; reading = reading; kind = kind.Dropped dropped } ∷ [];
-    calls = [];
-    done = record { runs = subst (λ (s : ReadStep). RunsFirst (read_entry 1 reading part out room s ∷ [])) is runs; asked = gains_nothing log; requests = refl };
-    ends = record { none = refl; no_bytes = refl };
-    asks = record { asked = tt };
+  pub after_drop : {c : Core} {tape2 : Option (List Entry)} {clock2 : Option (List Tick)} {entry : Entry}
+      → Lasts Then → SoFar Then met a b tape tape1 log log1 clock clock1 parts
+      → (reading dropped : ℕ) → entry ≡ event reading (kind.Dropped dropped)
+      → RunsWhere Then b c tape1 tape2 clock1 clock2 (entry ∷ []) → SoFar Then met a c tape tape2 log log1 clock clock2 parts
+  after_drop lasts before reading dropped is runs = record {
+    entries = event reading (kind.Dropped dropped) ∷ before.entries;
+    calls = before.calls;
+    done = did_more before (event_does reading (kind.Dropped dropped) is refl runs);
+    met_so = before.met_so;
+    no_bytes = ap (λ bs. bs ++ []) before.no_bytes;
+    asks = record { asked = before.asks.asked };
+    leads = λ past.
+        lasts (event reading (kind.Dropped dropped) ∷ []) (before.entries ++ past) (before.leads past);
+  }
+
+  -- the event that answers the call
+  pub ends_with : {c : Core} {tape2 : Option (List Entry)} {clock2 : Option (List Tick)} {entry : Entry}
+      → SoFar Then met a b tape tape1 log log1 clock clock1 parts
+      → (reading : ℕ) (of : EntryKind) → entry ≡ event reading of
+      → RequestLog block_name (Some (sizes_of (geometry_of b))) (event reading of ∷ []) [] → asked_of of ≡ []
+      → RunsWhere Then b c tape1 tape2 clock1 clock2 (entry ∷ [])
+      → Does (Did a c tape tape2 log log1 clock clock2) parts
+      (λ entries calls. (outcomes_of entries ≡ outcome_of of ++ met) × (bytes_read entries ≡ bytes_of of))
+  ends_with before reading of is quiet asks runs = record {
+    entries = event reading of ∷ before.entries;
+    calls = before.calls;
+    done = did_more before (event_does reading of is quiet runs);
+    ends = (ap (λ os. outcome_of of ++ os) before.met_so, ap (λ bs. bs ++ bytes_of of) before.no_bytes);
+    asks = record {
+      asked = subst (λ (bs : List ℕ). AllByRecursion (IsBlockOf parts) (bs ++ blocks_asked before.entries)) (sym asks)
+          before.asks.asked;
+    };
   }
 
   -- a GET was made
-  abbrev get_entries : ℕ → ℕ → GetJob → Result Got LinkFault → List ℕ → Bool → List Entry
-  get_entries reading later job result bytes taken =
-      record { pass = 1; reading = later; kind = kind.GetEnd job.block (shown_for result bytes) job.verify taken }
-      ∷ record { pass = 1; reading = reading; kind = kind.GetBegin job.block job.expect job.verify } ∷ []
-
-  get_does : (reading : ℕ) (part : Part) (out room : List ℕ) (step : ReadStep) (job : GetJob) → step ≡ read.Get job → job.block ≡ part.block → RunsFirst (read_entry 1 reading part out room step ∷ [])
-      → (ended : Result Unit CallFault) (fetched : FetchDoes (Runs mid core' tape1 tape' clock1 clock') (Gains log log') job.block job.verify ended)
-      → (Did core core' tape tape' log log' clock clock' (get_entries reading fetched.reading job fetched.got fetched.bytes fetched.taken) (call.Get (block_name job.block) job.verify (get_reply fetched.got fetched.bytes) ∷ []))
-      × outcome.AsksOnly (part ∷ []) (get_entries reading fetched.reading job fetched.got fetched.bytes fetched.taken)
-  get_does reading part out room step job is same runs ended fetched =
-      let begun = subst (λ (s : ReadStep). RunsFirst (read_entry 1 reading part out room s ∷ [])) is runs in (
-        record {
-          runs = runs_join core mid core' tape tape1 tape' clock clock1 clock' (record { pass = 1; reading = reading; kind = kind.GetBegin job.block job.expect job.verify } ∷ []) (record { pass = 1; reading = fetched.reading; kind = kind.GetEnd job.block (shown_for fetched.got fetched.bytes) job.verify fetched.taken } ∷ []) begun fetched.ran;
-          asked = fetched.called;
-          requests = (get_reply fetched.got fetched.bytes, [], refl, replies_fit fetched.got fetched.bytes, refl);
-        },
-        record { asked = (inl (sym same), tt) },
-      )
-
-  pub turn_got : (reading : ℕ) (part : Part) (out room : List ℕ) (step : ReadStep) (job : GetJob) → step ≡ read.Get job → job.block ≡ part.block → RunsFirst (read_entry 1 reading part out room step ∷ [])
-      → (ended : Result Unit CallFault) → FetchDoes (Runs mid core' tape1 tape' clock1 clock') (Gains log log') job.block job.verify ended
-      → ended ≡ Ok tt → TurnDoes (Did core core' tape tape' log log' clock clock') part out (Ok false)
-  turn_got reading part out room step job is same runs ended fetched ok =
-      let does = get_does reading part out room step job is same runs ended fetched in
-      record { entries = get_entries reading fetched.reading job fetched.got fetched.bytes fetched.taken; calls = call.Get (block_name job.block) job.verify (get_reply fetched.got fetched.bytes) ∷ []; done = does.0; ends = record { none = refl; no_bytes = refl }; asks = does.1 }
-
-  -- the newest entry is a failure, and the newest call has its fault
-  get_failed : (block : ℕ) (verify : Option (List ℕ)) (result : Result Got LinkFault) (bytes : List ℕ) (pass reading : ℕ) (taken : Bool) (fault : CallFault) (before : List Entry) → EndsAs {U = Unit {0}} result (Err fault)
-      → outcome.HasCause fault (record { pass = pass; reading = reading; kind = kind.GetEnd block (shown_for result bytes) verify taken } ∷ before) (call.Get (block_name block) verify (get_reply result bytes) ∷ [])
-  get_failed block verify (Ok value) bytes pass reading taken fault before ends = absurd ends
-  get_failed block verify (Err cause) bytes pass reading taken fault before ends = (tt, same_fault cause fault ends)
-
-  pub turn_get_failed : (reading : ℕ) (part : Part) (out room : List ℕ) (step : ReadStep) (job : GetJob) → step ≡ read.Get job → job.block ≡ part.block → RunsFirst (read_entry 1 reading part out room step ∷ [])
-      → (ended : Result Unit CallFault) → FetchDoes (Runs mid core' tape1 tape' clock1 clock') (Gains log log') job.block job.verify ended
-      → (fault : CallFault) → ended ≡ Err fault → TurnDoes (Did core core' tape tape' log log' clock clock') part out (Err fault)
-  turn_get_failed reading part out room step job is same runs ended fetched fault failed =
-      let does = get_does reading part out room step job is same runs ended fetched in
-      let ends : EndsAs {U = Unit {0}} fetched.got (Err fault) = subst (λ (r : Result Unit CallFault). EndsAs fetched.got r) failed fetched.ends in
+  pub after_get : {c d : Core} {tape2 tape3 : Option (List Entry)} {log3 : Option (List Call)}
+      {clock2 clock3 : Option (List Tick)} {entry : Entry} {ended : Result Unit CallFault}
+      → Lasts Then → SoFar Then met a b tape tape1 log log1 clock clock1 parts → (reading : ℕ) (job : GetJob)
+      → entry ≡ event reading (kind.GetBegin job.block job.expect job.verify) → IsBlockOf parts job.block
+      → RunsWhere Then b c tape1 tape2 clock1 clock2 (entry ∷ [])
+      → FetchDoes (Runs c d tape2 tape3 clock2 clock3) (Gains log1 log3) job.block job.verify ended
+      → SoFar Then met a d tape tape3 log log3 clock clock3 parts
+  after_get lasts before reading job is same runs fetched =
+      let more = get_entries reading job fetched.reading fetched.got fetched.bytes fetched.taken in
       record {
-        entries = get_entries reading fetched.reading job fetched.got fetched.bytes fetched.taken;
-        calls = call.Get (block_name job.block) job.verify (get_reply fetched.got fetched.bytes) ∷ [];
-        done = does.0;
-        ends = (record { none = refl; no_bytes = refl }, get_failed job.block job.verify fetched.got fetched.bytes 1 fetched.reading fetched.taken fault (record { pass = 1; reading = reading; kind = kind.GetBegin job.block job.expect job.verify } ∷ []) ends);
-        asks = does.1;
+        entries = more ++ before.entries;
+        calls = get_calls job fetched.got fetched.bytes ++ before.calls;
+        done = did_more before (get_does reading job is runs fetched);
+        met_so = before.met_so;
+        no_bytes = ap (λ bs. (bs ++ []) ++ []) before.no_bytes;
+        asks = get_asks parts before.entries reading job fetched.reading fetched.got fetched.bytes fetched.taken before.asks same;
+        leads = λ past. lasts more (before.entries ++ past) (before.leads past);
       }
 
-  -- a PUT was made
-  abbrev put_entries : ℕ → ℕ → ℕ → List ℕ → Result Unit LinkFault → List Entry
-  put_entries reading later block content sent =
-      record { pass = 1; reading = later; kind = kind.PutEnd block (is_ok sent) }
-      ∷ record { pass = 1; reading = reading; kind = kind.PutBegin block content } ∷ []
-
-  put_does : (reading : ℕ) (part : Part) (out room : List ℕ) (step : ReadStep) (job : PutJob) → step ≡ read.Put job → RunsFirst (read_entry 1 reading part out room step ∷ [])
-      → (ended : Result Unit CallFault) (stored : StoreDoes (Runs mid core' tape1 tape' clock1 clock') (Gains log log') (sizes_of (geometry_of mid)) job.block room ended)
-      → Did core core' tape tape' log log' clock clock' (put_entries reading stored.reading job.block room stored.sent) (put_call (block_name job.block) (meta_of (Some (sizes_of (geometry_of mid))) job.block) room (fault_of stored.sent) ∷ [])
-  put_does reading part out room step job is runs ended stored =
-      let begun = subst (λ (s : ReadStep). RunsFirst (read_entry 1 reading part out room s ∷ [])) is runs in
-      let calls = put_call (block_name job.block) (meta_of (Some (sizes_of (geometry_of mid))) job.block) room (fault_of stored.sent) ∷ [] in
-      let P : Geometry → Type 0 = λ g. RequestLog block_name (Some (sizes_of g)) (put_entries reading stored.reading job.block room stored.sent) calls in
+  -- a GET failed
+  pub get_fails : {c d : Core} {tape2 tape3 : Option (List Entry)} {log3 : Option (List Call)}
+      {clock2 clock3 : Option (List Tick)} {entry : Entry} {ended : Result Unit CallFault}
+      → SoFar Then met a b tape tape1 log log1 clock clock1 parts → (reading : ℕ) (job : GetJob)
+      → entry ≡ event reading (kind.GetBegin job.block job.expect job.verify) → IsBlockOf parts job.block
+      → RunsWhere Then b c tape1 tape2 clock1 clock2 (entry ∷ [])
+      → FetchDoes (Runs c d tape2 tape3 clock2 clock3) (Gains log1 log3) job.block job.verify ended
+      → (fault : CallFault) → ended ≡ Err fault
+      → Does (Did a d tape tape3 log log3 clock clock3) parts
+      (λ entries calls. (outcomes_of entries ≡ met) × HasCause fault entries calls)
+  get_fails before reading job is same runs fetched fault failed =
+      let ends : EndsAs {U = Unit {0}} fetched.got (Err fault) =
+      subst (λ (r : Result Unit CallFault). EndsAs fetched.got r) failed fetched.ends in
+      let begun = event reading (kind.GetBegin job.block job.expect job.verify) in
+      let cause = get_failed job.block job.verify fetched.got fetched.bytes fetched.reading fetched.taken fault (begun ∷ []) ends in
+      let more = get_entries reading job fetched.reading fetched.got fetched.bytes fetched.taken in
       record {
-        runs = runs_join core mid core' tape tape1 tape' clock clock1 clock' (record { pass = 1; reading = reading; kind = kind.PutBegin job.block room } ∷ []) (record { pass = 1; reading = stored.reading; kind = kind.PutEnd job.block (is_ok stored.sent) } ∷ []) begun stored.ran;
-        asked = stored.called;
-        requests = subst P runs.base.geometry (put_asked (sizes_of (geometry_of mid)) job.block room stored.sent 1 1 reading stored.reading);
+        entries = more ++ before.entries;
+        calls = get_calls job fetched.got fetched.bytes ++ before.calls;
+        done = did_more before (get_does reading job is runs fetched);
+        ends = (
+          before.met_so,
+          cause_stays fault before.entries more before.calls (get_calls job fetched.got fetched.bytes) cause,
+        );
+        asks = get_asks parts before.entries reading job fetched.reading fetched.got fetched.bytes fetched.taken before.asks same;
       }
 
-  pub turn_put : (reading : ℕ) (part : Part) (out room : List ℕ) (step : ReadStep) (job : PutJob) → step ≡ read.Put job → RunsFirst (read_entry 1 reading part out room step ∷ [])
-      → (ended : Result Unit CallFault) → StoreDoes (Runs mid core' tape1 tape' clock1 clock') (Gains log log') (sizes_of (geometry_of mid)) job.block room ended
-      → TurnDoes (Did core core' tape tape' log log' clock clock') part out (Ok false)
-  turn_put reading part out room step job is runs ended stored = record {
-    entries = put_entries reading stored.reading job.block room stored.sent;
-    calls = put_call (block_name job.block) (meta_of (Some (sizes_of (geometry_of mid))) job.block) room (fault_of stored.sent) ∷ [];
-    done = put_does reading part out room step job is runs ended stored;
-    ends = record { none = refl; no_bytes = refl };
-    asks = record { asked = tt };
-  }
-
-  -- a put that failed says its fault, as a delete or as a put
-  put_fault : (zeros : Bool) (name : List ℕ) (meta : Option Meta) (content : List ℕ) (fault : Option LinkFault) → outcome.fault_of (if zeros then call.Delete name fault else call.Put name content meta fault) ≡ fault
-  put_fault true name meta content fault = refl
-  put_fault false name meta content fault = refl
-
-  put_failed : (block : ℕ) (meta : Option Meta) (content : List ℕ) (sent : Result Unit LinkFault) (pass reading : ℕ) (fault : CallFault) (before : List Entry) → EndsAs {U = Unit {0}} sent (Err fault)
-      → outcome.HasCause fault (record { pass = pass; reading = reading; kind = kind.PutEnd block (is_ok sent) } ∷ before) (put_call (block_name block) meta content (fault_of sent) ∷ [])
-  put_failed block meta content (Ok value) pass reading fault before ends = absurd ends
-  put_failed block meta content (Err cause) pass reading fault before ends =
-      (refl, put_fault (is_zeros content) (block_name block) meta content (Some cause) ∙ same_fault cause fault ends)
-
-  pub turn_put_failed : (reading : ℕ) (part : Part) (out room : List ℕ) (step : ReadStep) (job : PutJob) → step ≡ read.Put job → RunsFirst (read_entry 1 reading part out room step ∷ [])
-      → (ended : Result Unit CallFault) → StoreDoes (Runs mid core' tape1 tape' clock1 clock') (Gains log log') (sizes_of (geometry_of mid)) job.block room ended
-      → (fault : CallFault) → ended ≡ Err fault → TurnDoes (Did core core' tape tape' log log' clock clock') part out (Err fault)
-  turn_put_failed reading part out room step job is runs ended stored fault failed =
-      let ends : EndsAs {U = Unit {0}} stored.sent (Err fault) = subst (λ (r : Result Unit CallFault). EndsAs stored.sent r) failed stored.ends in
+  -- a put was made
+  pub after_put : {c d : Core} {tape2 tape3 : Option (List Entry)} {log3 : Option (List Call)}
+      {clock2 clock3 : Option (List Tick)} {entry : Entry} {ended : Result Unit CallFault}
+      → Lasts Then → SoFar Then met a b tape tape1 log log1 clock clock1 parts → (reading block : ℕ) (content : List ℕ)
+      → entry ≡ event reading (kind.PutBegin block content)
+      → (runs : RunsWhere Then b c tape1 tape2 clock1 clock2 (entry ∷ []))
+      → StoreDoes (Runs c d tape2 tape3 clock2 clock3) (Gains log1 log3) (sizes_of (geometry_of c)) block content ended
+      → SoFar Then met a d tape tape3 log log3 clock clock3 parts
+  after_put {c} {d} {tape2} {tape3} {log3} {clock2} {clock3} {ended = ended} lasts before reading block content is runs stores =
+      let P : Geometry → Type 0 = λ g.
+      StoreDoes (Runs c d tape2 tape3 clock2 clock3) (Gains log1 log3) (sizes_of g) block content ended in
+      let stored = subst P runs.base.geometry stores in
+      let more = put_entries reading block content stored.reading stored.sent in
       record {
-        entries = put_entries reading stored.reading job.block room stored.sent;
-        calls = put_call (block_name job.block) (meta_of (Some (sizes_of (geometry_of mid))) job.block) room (fault_of stored.sent) ∷ [];
-        done = put_does reading part out room step job is runs ended stored;
-        ends = (record { none = refl; no_bytes = refl }, put_failed job.block (meta_of (Some (sizes_of (geometry_of mid))) job.block) room stored.sent 1 stored.reading fault (record { pass = 1; reading = reading; kind = kind.PutBegin job.block room } ∷ []) ends);
-        asks = record { asked = tt };
+        entries = more ++ before.entries;
+        calls = put_calls (sizes_of (geometry_of b)) block content stored.sent ++ before.calls;
+        done = did_more before (put_does reading block content is runs stored);
+        met_so = before.met_so;
+        no_bytes = ap (λ bs. (bs ++ []) ++ []) before.no_bytes;
+        asks = record { asked = before.asks.asked };
+        leads = λ past. lasts more (before.entries ++ past) (before.leads past);
       }
+
+  -- a put failed
+  pub put_fails : {c d : Core} {tape2 tape3 : Option (List Entry)} {log3 : Option (List Call)}
+      {clock2 clock3 : Option (List Tick)} {entry : Entry} {ended : Result Unit CallFault}
+      → SoFar Then met a b tape tape1 log log1 clock clock1 parts → (reading block : ℕ) (content : List ℕ)
+      → entry ≡ event reading (kind.PutBegin block content)
+      → (runs : RunsWhere Then b c tape1 tape2 clock1 clock2 (entry ∷ []))
+      → StoreDoes (Runs c d tape2 tape3 clock2 clock3) (Gains log1 log3) (sizes_of (geometry_of c)) block content ended
+      → (fault : CallFault) → ended ≡ Err fault
+      → Does (Did a d tape tape3 log log3 clock clock3) parts
+      (λ entries calls. (outcomes_of entries ≡ met) × HasCause fault entries calls)
+  put_fails {c} {d} {tape2} {tape3} {log3} {clock2} {clock3} {ended = ended} before reading block content is runs stores fault failed =
+      let P : Geometry → Type 0 = λ g.
+      StoreDoes (Runs c d tape2 tape3 clock2 clock3) (Gains log1 log3) (sizes_of g) block content ended in
+      let stored = subst P runs.base.geometry stores in
+      let ends : EndsAs {U = Unit {0}} stored.sent (Err fault) =
+      subst (λ (r : Result Unit CallFault). EndsAs stored.sent r) failed stored.ends in
+      let more = put_entries reading block content stored.reading stored.sent in
+      let cause = put_failed block (meta_of (Some (sizes_of (geometry_of b))) block) content stored.sent stored.reading fault
+      (event reading (kind.PutBegin block content) ∷ []) ends in
+      record {
+        entries = more ++ before.entries;
+        calls = put_calls (sizes_of (geometry_of b)) block content stored.sent ++ before.calls;
+        done = did_more before (put_does reading block content is runs stored);
+        ends = (
+          before.met_so,
+          cause_stays fault before.entries more before.calls (put_calls (sizes_of (geometry_of b)) block content stored.sent) cause,
+        );
+        asks = record { asked = before.asks.asked };
+      }
+
+-- the begin of a flush
+pub begins_flush : {a b : Core} {tape tape1 : Option (List Entry)} {log : Option (List Call)}
+    {clock clock1 : Option (List Tick)} (reading mark : ℕ)
+    → Runs a b tape tape1 clock clock1 (event reading (kind.FlushBegin mark) ∷ [])
+    → SoFar (HasBegun mark) (FlushBegun mark ∷ []) a b tape tape1 log log clock clock1 []
+begins_flush {log = log} reading mark runs = record {
+  entries = event reading (kind.FlushBegin mark) ∷ [];
+  calls = [];
+  done = record { runs = runs; asked = gains_nothing log; requests = refl };
+  met_so = refl;
+  no_bytes = refl;
+  asks = record { asked = tt };
+  leads = λ past.
+      ap (λ (t : Bool). is_some (if t then Some (length past) else flush_place past mark)) (eq-eqb mark mark refl);
+}

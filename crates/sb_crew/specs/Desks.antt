@@ -1,5 +1,5 @@
 -- What a caller makes its requests with.
-use Rattle.std.specs.Prelude.{ℕ, ◌≡◌, vec_len}
+use Rattle.std.specs.Prelude.{◌≡◌, vec_len}
 use Rattle.sb_base.specs.declared.geometry.Geometry.{Geometry}
 use Rattle.sb_crew.specs.declared.desk.Desk.{Desk}
 

@@ -1,5 +1,5 @@
 -- What a disk on one thread is made of.
-use Rattle.std.specs.Prelude.{ℕ, vec_len}
+use Rattle.std.specs.Prelude.{vec_len}
 use Rattle.sb_core.specs.declared.machine.Core.{Core}
 use Rattle.sb_crew.specs.declared.alone.Alone.{Alone}
 use Rattle.sb_crew.specs.declared.desk.Desk.{Desk}

@@ -1,5 +1,5 @@
 -- What two runs of calls did, one after the other.
-use Rattle.std.proofs.Common.{ℕ, ◌≡◌, List, [], ◌∷◌, ◌++◌, Option, Some, None, refl, sym, ◌∙◌, ap, subst, append_assoc}
+use Rattle.std.proofs.Common.{List, [], ◌∷◌, ◌++◌, Option, Some, None, refl, sym, ◌∙◌, ap, subst, append_assoc}
 use Rattle.sb_base.specs.declared.geometry.Geometry.{Geometry}
 use Rattle.sb_base.specs.declared.settings.Settings.{Settings}
 use Rattle.sb_base.specs.declared.entry.Entry.{Entry}
@@ -13,7 +13,7 @@ use Rattle.sb_laws.proofs.Joins.{requests_join, clock_traces_join}
 use Rattle.sb_core.specs.declared.machine.Core.{Core}
 use Rattle.sb_core.specs.Represents.{Represents, geometry_of, settings_of}
 use Rattle.sb_crew.specs.Names.{block_name}
-use Rattle.sb_crew.specs.Runs.{only_caller, sizes_of, Runs, Did}
+use Rattle.sb_crew.specs.Runs.{only_caller, sizes_of, RunsWhere, DidWhere}
 
 -- what was gained, and what was gained then
 pub gains_join : {X : Type 0} (a b c : Option (List X)) (xs ys : List X) → Gains a b xs → Gains b c ys → Gains a c (ys ++ xs)
@@ -32,42 +32,55 @@ pass_joins : (xs ys : List Entry) → IsOfPass 1 xs → IsOfPass 1 ys → IsOfPa
 pass_joins xs [] first second = first
 pass_joins xs (y ∷ ys) first second = (second.0, pass_joins xs ys first second.1)
 
-pub runs_join : (a b c : Core) (tape tape' tape'' : Option (List Entry)) (clock clock' clock'' : Option (List Tick)) (xs ys : List Entry) → Runs a b tape tape' clock clock' xs → Runs b c tape' tape'' clock' clock'' ys → Runs a c tape tape'' clock clock'' (ys ++ xs)
-runs_join a b c tape tape' tape'' clock clock' clock'' xs ys first second = record {
+-- a run over histories of one kind, and one over those that it leads to
+pub runs_join : {Is Then : List Entry → Type 0} {a b c : Core} {tape tape' tape'' : Option (List Entry)}
+    {clock clock' clock'' : Option (List Tick)} {xs ys : List Entry} → ((past : List Entry) → Is past → Then (xs ++ past))
+    → RunsWhere Is a b tape tape' clock clock' xs → RunsWhere Then b c tape' tape'' clock' clock'' ys
+    → RunsWhere Is a c tape tape'' clock clock'' (ys ++ xs)
+runs_join {Is} {Then} {a} {b} {c} {tape} {tape'} {tape''} {clock} {clock'} {clock''} {xs} {ys} leads first second = record {
   base = record { geometry = second.base.geometry ∙ first.base.geometry; settings = second.base.settings ∙ first.base.settings };
-  history = λ past is. subst (Represents c) (sym (append_assoc ys xs past)) (second.history (xs ++ past) (first.history past is));
+  history = λ past fits is.
+      subst (Represents c) (sym (append_assoc ys xs past))
+      (second.history (xs ++ past) (leads past fits) (first.history past fits is));
   of_pass = pass_joins xs ys first.of_pass second.of_pass;
   told = gains_join tape tape' tape'' xs ys first.told second.told;
   ticks = second.ticks ++ first.ticks;
   readings = gains_join clock clock' clock'' first.ticks second.ticks first.readings second.readings;
-  trace = λ past is.
+  trace = λ past fits is.
       let P : Geometry → Type 0 = λ g. ClockTrace g (settings_of b) only_caller (xs ++ past) ys None second.ticks in
       let Q : Settings → Type 0 = λ s. ClockTrace (geometry_of a) s only_caller (xs ++ past) ys None second.ticks in
-      let later = second.trace (xs ++ past) (first.history past is) in
-      clock_traces_join (geometry_of a) (settings_of a) only_caller past xs ys None first.ticks second.ticks (first.trace past is)
-      (subst Q first.base.settings (subst P first.base.geometry later));
+      let later = second.trace (xs ++ past) (leads past fits) (first.history past fits is) in
+      clock_traces_join (geometry_of a) (settings_of a) only_caller past xs ys None first.ticks second.ticks
+      (first.trace past fits is) (subst Q first.base.settings (subst P first.base.geometry later));
 }
 
-pub did_join : (a b c : Core) (tape tape' tape'' : Option (List Entry)) (log log' log'' : Option (List Call)) (clock clock' clock'' : Option (List Tick)) (xs ys : List Entry) (us vs : List Call)
-    → Did a b tape tape' log log' clock clock' xs us → Did b c tape' tape'' log' log'' clock' clock'' ys vs → Did a c tape tape'' log log'' clock clock'' (ys ++ xs) (vs ++ us)
-did_join a b c tape tape' tape'' log log' log'' clock clock' clock'' xs ys us vs first second =
+-- what was done to histories of one kind, and then to those that it leads to
+pub did_join : {Is Then : List Entry → Type 0} {a b c : Core} {tape tape' tape'' : Option (List Entry)}
+    {log log' log'' : Option (List Call)} {clock clock' clock'' : Option (List Tick)} {xs ys : List Entry} {us vs : List Call}
+    → ((past : List Entry) → Is past → Then (xs ++ past)) → DidWhere Is a b tape tape' log log' clock clock' xs us
+    → DidWhere Then b c tape' tape'' log' log'' clock' clock'' ys vs
+    → DidWhere Is a c tape tape'' log log'' clock clock'' (ys ++ xs) (vs ++ us)
+did_join {Is} {Then} {a} {b} {c} {tape} {tape'} {tape''} {log} {log'} {log''} {clock} {clock'} {clock''} {xs} {ys} {us} {vs} leads first second =
     let P : Geometry → Type 0 = λ g. RequestLog block_name (Some (sizes_of g)) ys vs in
     record {
-      runs = runs_join a b c tape tape' tape'' clock clock' clock'' xs ys first.runs second.runs;
+      runs = runs_join leads first.runs second.runs;
       asked = gains_join log log' log'' us vs first.asked second.asked;
-      requests = requests_join block_name (Some (sizes_of (geometry_of a))) xs ys us vs first.requests (subst P first.runs.base.geometry second.requests);
+      requests = requests_join block_name (Some (sizes_of (geometry_of a))) xs ys us vs first.requests
+          (subst P first.runs.base.geometry second.requests);
     }
 
-pub did_nothing : (core : Core) (tape : Option (List Entry)) (log : Option (List Call)) (clock : Option (List Tick)) → Did core core tape tape log log clock clock [] []
-did_nothing core tape log clock = record {
+-- nothing was done
+pub did_nothing : {Is : List Entry → Type 0} {core : Core} {tape : Option (List Entry)} {log : Option (List Call)}
+    {clock : Option (List Tick)} → DidWhere Is core core tape tape log log clock clock [] []
+did_nothing {core} {tape} {log} {clock} = record {
   runs = record {
     base = record { geometry = refl; settings = refl };
-    history = λ past is. is;
+    history = λ past fits is. is;
     of_pass = tt;
     told = gains_nothing tape;
     ticks = [];
     readings = gains_nothing clock;
-    trace = λ past is. refl;
+    trace = λ past fits is. refl;
   };
   asked = gains_nothing log;
   requests = refl;

@@ -1,12 +1,13 @@
 -- What the calls of a disk on one thread did: how the core moved, and what tape, link and clock gained. Entries, calls and
 -- ticks are newest first.
-use Rattle.std.specs.Prelude.{ℕ, ◌≡◌, ◌*◌, true, List, ◌++◌, Option, Some, None}
+use Rattle.std.specs.Prelude.{ℕ, ◌*◌, true, List, ◌++◌, Option, Some, None, IsSome}
 use Rattle.sb_base.specs.declared.geometry.Geometry.{Geometry}
 use Rattle.sb_base.specs.declared.entry.Entry.{Entry}
 use Rattle.sb_world.specs.Told.{Gains}
 use Rattle.sb_world.specs.declared.clock.Tick.{Tick}
 use Rattle.sb_world.specs.declared.link.Call.{Call}
 use Rattle.sb_world.specs.declared.link.Meta.{Meta}
+use Rattle.sb_history.specs.Flushes.{flush_place}
 use Rattle.sb_history.specs.Passes.{IsOfPass}
 use Rattle.sb_history.specs.Requests.{RequestLog}
 use Rattle.sb_history.specs.ClockTrace.{Caller, ClockTrace}
@@ -23,18 +24,41 @@ only_caller = record { pass = 1; alone = true }
 abbrev pub sizes_of : Geometry → Meta
 sizes_of geometry = record { size = geometry.block_size * geometry.blocks; block_size = geometry.block_size }
 
--- the core added these entries to each history that it represents, the tape has them, and the clock gave their readings
-pub record Runs (core core' : Core) (tape tape' : Option (List Entry)) (clock clock' : Option (List Tick)) (entries : List Entry) : Type 0 where
+-- a history of any kind, and one in which the flush of this mark has begun
+abbrev pub any_past : List Entry → Type 0
+any_past past = Unit {0}
+
+abbrev pub HasBegun : ℕ → List Entry → Type 0
+HasBegun mark past = IsSome (flush_place past mark)
+
+-- the core added these entries to each history of this kind that it represents, the tape has them, and the clock gave
+-- their readings
+pub record RunsWhere (Is : List Entry → Type 0) (core core' : Core) (tape tape' : Option (List Entry))
+    (clock clock' : Option (List Tick)) (entries : List Entry) : Type 0 where
   pub base : SameBase core core'
-  pub history : (past : List Entry) → Represents core past → Represents core' (entries ++ past)
+  pub history : (past : List Entry) → Is past → Represents core past → Represents core' (entries ++ past)
   pub of_pass : IsOfPass 1 entries
   pub told : Gains tape tape' entries
   pub ticks : List Tick
   pub readings : Gains clock clock' ticks
-  pub trace : (past : List Entry) → Represents core past → ClockTrace (geometry_of core) (settings_of core) only_caller past entries None ticks
+  pub trace : (past : List Entry) → Is past → Represents core past
+      → ClockTrace (geometry_of core) (settings_of core) only_caller past entries None ticks
+
+-- the same for histories of every kind
+abbrev pub Runs : Core → Core → Option (List Entry) → Option (List Entry) → Option (List Tick) → Option (List Tick)
+    → List Entry → Type 0
+Runs core core' tape tape' clock clock' entries = RunsWhere any_past core core' tape tape' clock clock' entries
 
 -- these entries were added, and the link's log gained just the calls that they stand for
-pub record Did (core core' : Core) (tape tape' : Option (List Entry)) (log log' : Option (List Call)) (clock clock' : Option (List Tick)) (entries : List Entry) (calls : List Call) : Type 0 where
-  pub runs : Runs core core' tape tape' clock clock' entries
+pub record DidWhere (Is : List Entry → Type 0) (core core' : Core) (tape tape' : Option (List Entry))
+    (log log' : Option (List Call)) (clock clock' : Option (List Tick)) (entries : List Entry) (calls : List Call)
+    : Type 0 where
+  pub runs : RunsWhere Is core core' tape tape' clock clock' entries
   pub asked : Gains log log' calls
   pub requests : RequestLog block_name (Some (sizes_of (geometry_of core))) entries calls
+
+-- the same for histories of every kind
+abbrev pub Did : Core → Core → Option (List Entry) → Option (List Entry) → Option (List Call) → Option (List Call)
+    → Option (List Tick) → Option (List Tick) → List Entry → List Call → Type 0
+Did core core' tape tape' log log' clock clock' entries calls =
+    DidWhere any_past core core' tape tape' log log' clock clock' entries calls

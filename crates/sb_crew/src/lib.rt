@@ -4,7 +4,11 @@
 mod alone;
 mod calls;
 mod desk;
+mod flushes;
 mod names;
+mod reads;
+mod requests;
+mod writes;
 
 pub use alone::Alone;
 pub use calls::{CallFault, Calls};

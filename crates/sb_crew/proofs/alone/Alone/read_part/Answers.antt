@@ -1,65 +1,88 @@
-use Rattle.std.proofs.Common.{◌≡◌, [], ◌∷◌, ◌++◌, List, ℕ, length, refl, subst, sym, ap, Ok, Bool, ◌∙◌, arith}
+use Rattle.std.proofs.Common.{◌∙◌, [], refl, sym, ap, subst, arith, inl}
 use Rattle.sb_base.specs.declared.geometry.Geometry.{Geometry}
+use Rattle.sb_base.specs.declared.entry.EntryKind.TheVariants as kind
 use Rattle.sb_base.specs.Ranges.{IsPart}
-use Rattle.sb_crew.specs.Outcomes.{Outcome, ReadDone, outcomes_of, bytes_read}
-use Rattle.sb_crew.specs.Turns.{TurnEnds}
-use Rattle.sb_crew.specs.Joins.{did_join, did_nothing}
-use Rattle.sb_crew.proofs.OutcomeLemmas.{nothing_joins, asks_join, outcomes_join, bytes_join, cause_stays}
+use Rattle.sb_core.specs.Steps.{read_entry}
+use Rattle.std.proofs.lemmas.Result.{err_from_is_err_and}
+use Rattle.sb_crew.specs.Joins.{did_nothing}
+use Rattle.sb_crew.proofs.Turning.{any_lasts, after_drop, after_get, after_put, ends_with, get_fails, put_fails}
 use Rattle.sb_crew.proofs.alone.Alone.read_part.Goals as goal
 
 pub turns-init : goal.turns-init
 turns-init g c = record {
-  entries = [];
-  calls = [];
-  done = did_nothing c.args.self.now.core _ _ _;
-  nothing = record { none = refl; no_bytes = refl };
-  asks = record { asked = tt };
-  ready = record { idle = c.requires.ready.idle; current = c.requires.ready.current; whole_room = c.as_mut_slice-room.ensures.len ∙ c.requires.ready.whole_room };
+  so_far = record {
+    entries = [];
+    calls = [];
+    done = did_nothing;
+    met_so = refl;
+    no_bytes = refl;
+    asks = record { asked = tt };
+    leads = λ past. tt;
+  };
+  ready = record {
+    idle = c.requires.ready.idle;
+    current = c.requires.ready.current;
+    whole_room = c.as_mut_slice-room.ensures.len ∙ c.requires.ready.whole_room;
+  };
   part = c.requires.part;
   out = c.requires.out;
 }
 
+pub turns-preserved-in-Continue-1 : goal.turns-preserved-in-Continue-1
+turns-preserved-in-Continue-1 g c =
+    let so_far = after_get any_lasts c.turns.invariant.so_far c.ask_read.new.self.reading c.in-Get.job
+    (ap (read_entry 1 c.ask_read.new.self.reading c.args.part c.ask_read.new.out c.ask_read.new.room) c.in-Get.is) (inl (sym c.in-Get.ensures.leads.same_block)) c.ask_read.ensures.runs c.fetch.ensures.did in
+    record {
+      so_far = so_far;
+      ready = c.fetch.ensures.ready;
+      part = subst (λ (geometry : Geometry). IsPart geometry c.args.part) (sym (so_far.done.runs.base.geometry ∙ sym c.turns.invariant.so_far.done.runs.base.geometry)) c.turns.invariant.part;
+      out = omega (arith, c.turns.invariant.out);
+    }
+
+pub turns-preserved-in-Dropped : goal.turns-preserved-in-Dropped
+turns-preserved-in-Dropped g c =
+    let so_far = after_drop any_lasts c.turns.invariant.so_far c.ask_read.new.self.reading c.in-Dropped.field-0
+    (ap (read_entry 1 c.ask_read.new.self.reading c.args.part c.ask_read.new.out c.ask_read.new.room) c.in-Dropped.is) c.ask_read.ensures.runs in
+    record {
+      so_far = so_far;
+      ready = record {
+        idle = c.in-Dropped.ensures.leads.idle;
+        current = c.ask_read.ensures.current;
+        whole_room = c.ask_read.auto.room ∙ c.turns.invariant.ready.whole_room
+            ∙ ap (λ (geometry : Geometry). geometry.block_size) (sym c.ask_read.ensures.runs.base.geometry);
+      };
+      part = subst (λ (geometry : Geometry). IsPart geometry c.args.part) (sym (so_far.done.runs.base.geometry ∙ sym c.turns.invariant.so_far.done.runs.base.geometry)) c.turns.invariant.part;
+      out = omega (arith, c.turns.invariant.out);
+    }
+
 pub turns-preserved : goal.turns-preserved
 turns-preserved g c =
-    let before = c.turns.invariant in
-    let turn = c.in-Ok-false.ensures.did in
-    let ends = subst (λ (done : Bool). TurnEnds c.args.part c.read_turn.new.out turn.entries turn.calls (Ok done)) c.in-Ok-false.field-0-test turn.ends in
+    let so_far = after_put any_lasts c.turns.invariant.so_far c.ask_read.new.self.reading c.in-Put.job.block c.ask_read.new.room
+    (ap (read_entry 1 c.ask_read.new.self.reading c.args.part c.ask_read.new.out c.ask_read.new.room) c.in-Put.is) c.ask_read.ensures.runs c.store.ensures.did in
     record {
-      entries = turn.entries ++ before.entries;
-      calls = turn.calls ++ before.calls;
-      done = did_join _ _ _ _ _ _ _ _ _ _ _ _ _ _ _ _ before.done turn.done;
-      nothing = nothing_joins _ _ before.nothing ends;
-      asks = asks_join _ _ _ before.asks turn.asks;
-      ready = c.in-Ok-false.ensures.ready;
-      part = subst (λ (geometry : Geometry). IsPart geometry c.args.part) (sym turn.done.runs.base.geometry) before.part;
-      out = omega (arith, before.out);
+      so_far = so_far;
+      ready = c.store.ensures.ready;
+      part = subst (λ (geometry : Geometry). IsPart geometry c.args.part) (sym (so_far.done.runs.base.geometry ∙ sym c.turns.invariant.so_far.done.runs.base.geometry)) c.turns.invariant.part;
+      out = omega (arith, c.turns.invariant.out);
     }
 
-pub returns-in-Ok-true-clause-did : goal.returns-in-Ok-true-clause-did
-returns-in-Ok-true-clause-did g c =
-    let before = c.turns.invariant in
-    let turn = c.in-Ok-true.ensures.did in
-    let ends = subst (λ (done : Bool). TurnEnds c.args.part c.read_turn.new.out turn.entries turn.calls (Ok done)) c.in-Ok-true.field-0-test turn.ends in
-    record {
-      entries = turn.entries ++ before.entries;
-      calls = turn.calls ++ before.calls;
-      done = did_join _ _ _ _ _ _ _ _ _ _ _ _ _ _ _ _ before.done turn.done;
-      ends = (
-        outcomes_join turn.entries before.entries ∙ ap (λ (os : List Outcome). os ++ outcomes_of before.entries) ends.0 ∙ ap (λ (os : List Outcome). ReadDone c.args.part ∷ os) before.nothing.none,
-        bytes_join turn.entries before.entries ∙ ap (λ (bs : List ℕ). bs ++ bytes_read turn.entries) before.nothing.no_bytes ∙ ends.1,
-      );
-      asks = asks_join _ _ _ before.asks turn.asks;
-    }
+pub returns-in-Done-clause-did : goal.returns-in-Done-clause-did
+returns-in-Done-clause-did g c =
+    let ended = ends_with c.turns.invariant.so_far c.ask_read.new.self.reading (kind.Read c.args.part c.ask_read.new.out) (ap (read_entry 1 c.ask_read.new.self.reading c.args.part c.ask_read.new.out c.ask_read.new.room) c.in-Done.is) refl refl c.ask_read.ensures.runs in
+    record { entries = ended.entries; calls = ended.calls; done = ended.done; ends = ended.ends; asks = ended.asks }
 
-pub returns-in-Err-clause-did : goal.returns-in-Err-clause-did
-returns-in-Err-clause-did g c =
-    let before = c.turns.invariant in
-    let turn = c.in-Err.ensures.did in
-    let all = nothing_joins _ _ before.nothing turn.ends.0 in
-    record {
-      entries = turn.entries ++ before.entries;
-      calls = turn.calls ++ before.calls;
-      done = did_join _ _ _ _ _ _ _ _ _ _ _ _ _ _ _ _ before.done turn.done;
-      ends = (all.none, cause_stays _ _ _ _ _ turn.ends.1);
-      asks = asks_join _ _ _ before.asks turn.asks;
-    }
+pub returns-in_err-fetch-in-Get-clause-did : goal.returns-in_err-fetch-in-Get-clause-did
+returns-in_err-fetch-in-Get-clause-did g c =
+    let ended = get_fails c.turns.invariant.so_far c.ask_read.new.self.reading c.in-Get.job
+    (ap (read_entry 1 c.ask_read.new.self.reading c.args.part c.ask_read.new.out c.ask_read.new.room) c.in-Get.is) (inl (sym c.in-Get.ensures.leads.same_block)) c.ask_read.ensures.runs c.fetch.ensures.did
+    c.in_err-fetch-in-Get.field-0.0 c.in_err-fetch-in-Get.was in
+    let failed = err_from_is_err_and c.from_residual.result c.from_residual.ensures.1 in
+    rw (failed.1, failed.2) record { entries = ended.entries; calls = ended.calls; done = ended.done; ends = ended.ends; asks = ended.asks }
+
+pub returns-in_err-store-in-Put-clause-did : goal.returns-in_err-store-in-Put-clause-did
+returns-in_err-store-in-Put-clause-did g c =
+    let ended = put_fails c.turns.invariant.so_far c.ask_read.new.self.reading c.in-Put.job.block c.ask_read.new.room
+    (ap (read_entry 1 c.ask_read.new.self.reading c.args.part c.ask_read.new.out c.ask_read.new.room) c.in-Put.is) c.ask_read.ensures.runs c.store.ensures.did
+    c.in_err-store-in-Put.field-0.0 c.in_err-store-in-Put.was in
+    let failed = err_from_is_err_and c.from_residual-in_err-store-in-Put.result c.from_residual-in_err-store-in-Put.ensures.1 in
+    rw (failed.1, failed.2) record { entries = ended.entries; calls = ended.calls; done = ended.done; ends = ended.ends; asks = ended.asks }

@@ -1,25 +1,19 @@
-use Rattle.std.proofs.Common.{◌≡◌, List, length, vec_len}
-use Rattle.sb_base.specs.declared.entry.Entry.{Entry}
+use Rattle.std.proofs.Common.{◌≡◌, [], ◌∷◌, length}
 use Rattle.sb_base.specs.Ranges.{IsPart}
-use Rattle.sb_world.specs.declared.link.Call.{Call}
 use Rattle.sb_core.specs.Represents.{geometry_of}
 use Rattle.sb_core.specs.Progress.{steps_left}
 use Rattle.sb_crew.specs.Ready.{IsReady}
-use Rattle.sb_crew.specs.Runs.{Did}
-use Rattle.sb_crew.specs.Outcomes.{AsksOnly}
-use Rattle.sb_crew.specs.Turns.{DoesNothing}
-use Rattle.std.proofs.Common.{[], ◌∷◌}
+use Rattle.sb_crew.specs.Runs.{any_past}
+use Rattle.sb_crew.specs.Turns.{SoFar}
 use Rattle.sb_crew.proofs.alone.Alone.read_part.Given as goal
 
--- what was done so far
+-- nothing that the call wants was done so far
 abbrev pub invariant-turns : goal.invariant-turns
 invariant-turns g l =
     record {
-      entries : List Entry;
-      calls : List Call;
-      done : Did l.fn.self.core l.self.core (g.T.Tape.told l.fn.self.tape) (g.T.Tape.told l.self.tape) (g.L.Link.log l.fn.desk.link) (g.L.Link.log l.link) (g.C.Clock.ticks l.fn.desk.clock) (g.C.Clock.ticks l.clock) entries calls;
-      nothing : DoesNothing entries;
-      asks : AsksOnly (l.part ∷ []) entries;
+      so_far : SoFar any_past [] l.fn.self.core l.self.core (g.T.Tape.told l.fn.self.tape) (g.T.Tape.told l.self.tape)
+          (g.L.Link.log l.fn.desk.link) (g.L.Link.log l.link) (g.C.Clock.ticks l.fn.desk.clock) (g.C.Clock.ticks l.clock)
+          (l.part ∷ []);
       ready : IsReady l.self.core l.self.reading (length l.room);
       part : IsPart (geometry_of l.self.core) l.part;
       out : length l.out ≡ l.part.length;

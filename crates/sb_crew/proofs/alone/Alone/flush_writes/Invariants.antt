@@ -1,0 +1,20 @@
+use Rattle.std.proofs.Common.{[], ◌∷◌, length}
+use Rattle.sb_core.specs.Progress.{steps_left}
+use Rattle.sb_crew.specs.Outcomes.{FlushBegun}
+use Rattle.sb_crew.specs.Ready.{IsReady}
+use Rattle.sb_crew.specs.Runs.{HasBegun}
+use Rattle.sb_crew.specs.Turns.{SoFar}
+use Rattle.sb_crew.proofs.alone.Alone.flush_writes.Given as goal
+
+-- the flush has begun, and is not done
+abbrev pub invariant-turns : goal.invariant-turns
+invariant-turns g l =
+    record {
+      so_far : SoFar (HasBegun l.mark) (FlushBegun l.mark ∷ []) l.fn.self.core l.self.core (g.T.Tape.told l.fn.self.tape)
+          (g.T.Tape.told l.self.tape) (g.L.Link.log l.fn.desk.link) (g.L.Link.log l.link) (g.C.Clock.ticks l.fn.desk.clock)
+          (g.C.Clock.ticks l.clock) [];
+      ready : IsReady l.self.core l.self.reading (length l.room);
+    }
+
+abbrev pub decreases-turns : goal.decreases-turns
+decreases-turns g l = steps_left l.self.core 0

@@ -1,0 +1,83 @@
+//! Flushes.
+
+ghost use Rattle.std.specs.Prelude.{◌≡◌, ◌∷◌, [], length, vec_len};
+ghost use Rattle.sb_base.specs.Lines.{entry_kind_of};
+ghost use Rattle.sb_core.specs.Steps.{flush_kind};
+
+use crate::alone::{Alone, PASS};
+use crate::calls::CallFault;
+use crate::desk::Desk;
+use sb_base::Kind;
+use sb_core::{FlushStep, Mark};
+use sb_world::{Clock, Link, Tape};
+
+/// What an answer to a step of a flush is in the history.
+fn flush_kind<'a>(step: &FlushStep, mark: Mark, room: &'a [u8]) -> Kind<'a>
+    ensures { entry_kind_of result ≡ flush_kind mark room.now step.now }
+{
+    match step {
+        FlushStep::Done => Kind::FlushDone(mark),
+        FlushStep::Wait(why) => Kind::Waited(*why),
+        FlushStep::Put(job) => Kind::PutBegin(job.block(), room),
+    }
+}
+
+impl<T: Tape> Alone<T> {
+    ghost use Rattle.sb_core.specs.Represents.{geometry_of, reading_of};
+    ghost use Rattle.sb_core.specs.Progress.{FlushLeads, IsIdle};
+    ghost use Rattle.sb_core.specs.Steps.{AnswersFlush, CopiesFlush, flush_begin_entry, flush_step_entry};
+    ghost use Rattle.sb_crew.specs.Outcomes.{FlushDoes};
+    ghost use Rattle.sb_crew.specs.Ready.{IsReady};
+    ghost use Rattle.sb_crew.specs.Runs.{Runs, RunsWhere, HasBegun, Did};
+
+    /// Begins a flush.
+    fn begin_flush<C: Clock>(&mut self, clock: &mut C) -> Mark
+        requires current { self.old.reading ≡ reading_of self.old.core }
+        ensures runs { Runs self.old.core self.new.core (T.told self.old.tape) (T.told self.new.tape) (C.ticks clock.old) (C.ticks clock.new) (flush_begin_entry 1 self.new.reading result ∷ []) }
+        ensures idle { IsIdle self.old.core → IsIdle self.new.core }
+        ensures current { self.new.reading ≡ reading_of self.new.core }
+    {
+        let now = clock.now();
+        let mark = self.core.flush_begin(now, PASS);
+        self.note(now, Kind::FlushBegin(mark));
+        mark
+    }
+
+    /// Asks the core for a step of a flush.
+    fn ask_flush<C: Clock>(&mut self, clock: &mut C, room: &mut [u8], mark: Mark) -> FlushStep
+        requires ready { IsReady self.old.core self.old.reading (length room.old) }
+        ensures runs { RunsWhere (HasBegun mark) self.old.core self.new.core (T.told self.old.tape) (T.told self.new.tape) (C.ticks clock.old) (C.ticks clock.new) (flush_step_entry 1 self.new.reading mark room.new result ∷ []) }
+        ensures answer { AnswersFlush self.old.core mark result }
+        ensures copies { CopiesFlush self.old.core room.new result }
+        ensures leads { FlushLeads self.old.core self.new.core 1 result }
+        ensures current { self.new.reading ≡ reading_of self.new.core }
+    {
+        let now = clock.now();
+        let step = self.core.flush_step(now, PASS, mark, room);
+        let kind = flush_kind(&step, mark, room);
+        self.note(now, kind);
+        step
+    }
+
+    /// Has everything written back that was written before.
+    pub(crate) fn flush_writes<L: Link, C: Clock>(
+        &mut self,
+        desk: &mut Desk<L, C>,
+    ) -> Result<(), CallFault>
+        requires ready { IsReady self.old.core self.old.reading (vec_len desk.old.room) }
+        ensures did { FlushDoes (Did self.old.core self.new.core (T.told self.old.tape) (T.told self.new.tape) (L.log desk.old.link) (L.log desk.new.link) (C.ticks desk.old.clock) (C.ticks desk.new.clock)) result }
+        ensures ready { IsReady self.new.core self.new.reading (vec_len desk.new.room) }
+    {
+        let link = &mut desk.link;
+        let clock = &mut desk.clock;
+        let room = desk.room.as_mut_slice();
+        let mark = self.begin_flush(clock);
+        'turns: loop {
+            match self.ask_flush(clock, room, mark) {
+                FlushStep::Done => return Ok(()),
+                FlushStep::Wait(_) => unreachable!(),
+                FlushStep::Put(job) => self.store(link, clock, room, job)?,
+            }
+        }
+    }
+}

@@ -1,0 +1,86 @@
+//! Reads.
+
+ghost use Rattle.std.specs.Prelude.{◌≡◌, ◌∷◌, [], length, vec_len};
+ghost use Rattle.sb_base.specs.Lines.{entry_kind_of};
+ghost use Rattle.sb_core.specs.Steps.{read_kind};
+ghost use Rattle.sb_base.specs.Ranges.{IsPart};
+
+use crate::alone::{Alone, PASS};
+use crate::calls::CallFault;
+use crate::desk::Desk;
+use sb_base::{Kind, Part};
+use sb_core::ReadStep;
+use sb_world::{Clock, Link, Tape};
+
+/// What an answer to a read is in the history.
+fn read_kind<'a>(step: &ReadStep, part: Part, out: &'a [u8], room: &'a [u8]) -> Kind<'a>
+    ensures { entry_kind_of result ≡ read_kind part out.now room.now step.now }
+{
+    match step {
+        ReadStep::Done => Kind::Read(part, out),
+        ReadStep::Wait(why) => Kind::Waited(*why),
+        ReadStep::Get(job) => Kind::GetBegin(job.block(), job.expect(), job.verify()),
+        ReadStep::Dropped(block) => Kind::Dropped(*block),
+        ReadStep::Put(job) => Kind::PutBegin(job.block(), room),
+    }
+}
+
+impl<T: Tape> Alone<T> {
+    ghost use Rattle.sb_core.specs.Represents.{geometry_of, reading_of};
+    ghost use Rattle.sb_core.specs.Progress.{ReadLeads};
+    ghost use Rattle.sb_core.specs.Steps.{AnswersRead, CopiesRead, read_entry};
+    ghost use Rattle.sb_crew.specs.Outcomes.{ReadDoes};
+    ghost use Rattle.sb_crew.specs.Ready.{IsReady};
+    ghost use Rattle.sb_crew.specs.Runs.{Runs, Did};
+
+    /// Asks the core to read a part.
+    fn ask_read<C: Clock>(
+        &mut self,
+        clock: &mut C,
+        room: &mut [u8],
+        part: Part,
+        out: &mut [u8],
+    ) -> ReadStep
+        requires ready { IsReady self.old.core self.old.reading (length room.old) }
+        requires part { IsPart (geometry_of self.old.core) part }
+        requires out { length out.old ≡ part.length }
+        ensures runs { Runs self.old.core self.new.core (T.told self.old.tape) (T.told self.new.tape) (C.ticks clock.old) (C.ticks clock.new) (read_entry 1 self.new.reading part out.new room.new result ∷ []) }
+        ensures answer { AnswersRead self.old.core self.new.reading part.block result }
+        ensures copies { CopiesRead self.old.core part out.new room.new result }
+        ensures leads { ReadLeads self.old.core self.new.core 1 part.block result }
+        ensures current { self.new.reading ≡ reading_of self.new.core }
+    {
+        let now = clock.now();
+        let step = self.core.read(now, PASS, part, out, room);
+        let kind = read_kind(&step, part, out, room);
+        self.note(now, kind);
+        step
+    }
+
+    /// Reads a part of a block.
+    pub(crate) fn read_part<L: Link, C: Clock>(
+        &mut self,
+        desk: &mut Desk<L, C>,
+        part: Part,
+        out: &mut [u8],
+    ) -> Result<(), CallFault>
+        requires ready { IsReady self.old.core self.old.reading (vec_len desk.old.room) }
+        requires part { IsPart (geometry_of self.old.core) part }
+        requires out { length out.old ≡ part.length }
+        ensures did { ReadDoes (Did self.old.core self.new.core (T.told self.old.tape) (T.told self.new.tape) (L.log desk.old.link) (L.log desk.new.link) (C.ticks desk.old.clock) (C.ticks desk.new.clock)) part out.new result }
+        ensures ready { IsReady self.new.core self.new.reading (vec_len desk.new.room) }
+    {
+        let link = &mut desk.link;
+        let clock = &mut desk.clock;
+        let room = desk.room.as_mut_slice();
+        'turns: loop {
+            match self.ask_read(clock, room, part, out) {
+                ReadStep::Done => return Ok(()),
+                ReadStep::Wait(_) => unreachable!(),
+                ReadStep::Get(job) => self.fetch(link, clock, room, job)?,
+                ReadStep::Dropped(_) => {}
+                ReadStep::Put(job) => self.store(link, clock, room, job)?,
+            }
+        }
+    }
+}
