@@ -1,4 +1,4 @@
-pub mod Filling
+pub mod Filled
 pub mod RequestParts
 pub mod OptionParts
 pub mod OneForm

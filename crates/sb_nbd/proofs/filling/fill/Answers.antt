@@ -2,7 +2,7 @@ use Rattle.std.proofs.Common.{rules, subst, sym, arith}
 use Rattle.std.proofs.lemmas.Slice.{overwrites}
 use Rattle.sb_world.specs.Streams.{Takes}
 use Rattle.sb_world.proofs.Streaming.{takes_both}
-use Rattle.sb_nbd.proofs.Filling.{take_filled}
+use Rattle.sb_nbd.proofs.Filled.{take_filled}
 use Rattle.sb_nbd.proofs.filling.fill.Goals as goal
 
 pub loop-n-preserved : goal.loop-n-preserved
