@@ -18,9 +18,9 @@ pub use end::NbdEnd;
 pub use greeting::{MAX_FLAGS, read_flags, write_export, write_greeting};
 pub use laws::{one_option, one_request};
 pub use option::{Asked, EXPORT_NAME, MAX_OPTION, OPTION_MAGIC, read_option};
-pub use reply::{REPLY_MAGIC, write_reply};
+pub use reply::{EINVAL, EIO, ENOMEM, ENOSPC, REPLY_MAGIC, write_reply};
 pub use request::{MAX_PAYLOAD, REQUEST_MAGIC, read_request};
-pub use wanted::{DISC, READ, WRITE, Wanted};
+pub use wanted::{DISC, FLUSH, READ, WRITE, Wanted};
 
 #[cfg(test)]
 mod tests;

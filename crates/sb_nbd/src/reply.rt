@@ -19,6 +19,18 @@ use sb_world::Sink;
 /// What a reply begins with.
 pub const REPLY_MAGIC: u32 = 0x67446698;
 
+/// The error of a request whose store has failed.
+pub const EIO: u32 = 5;
+
+/// The error of a request for which there is no memory.
+pub const ENOMEM: u32 = 12;
+
+/// The error of a request that can't be served.
+pub const EINVAL: u32 = 22;
+
+/// The error of a write that passes the end of the disk.
+pub const ENOSPC: u32 = 28;
+
 /// Writes a reply. The body goes to the sink as it is, after the head.
 pub fn write_reply<S: Sink>(
     sink: &mut S,

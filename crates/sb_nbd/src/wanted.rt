@@ -21,6 +21,9 @@ pub const WRITE: u16 = 1;
 /// The type of the request that ends a session.
 pub const DISC: u16 = 2;
 
+/// The type of a request to have all writes kept.
+pub const FLUSH: u16 = 3;
+
 /// What a request asks for: `length` bytes of the disk from `offset` on. Its reply has its cookie.
 #[derive(Drop, Clone, Copy, PartialEq, Eq, Debug)]
 pub struct Wanted {
