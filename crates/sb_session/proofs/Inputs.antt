@@ -2,7 +2,6 @@
 use Rattle.std.proofs.Common.{ℕ, ◌≡◌, ◌≤◌, ◌<◌, ◌+◌, ◌∙◌, ◌^◌, List, [], ◌∷◌, ◌++◌, Option, Some, length, true, false, append_assoc, append-nil, ap, sym, subst, refl, arith, inl, inr, nat_eq, if◌then◌else◌}
 use Rattle.std.specs.Int.{w32, to_be_bytes}
 use Rattle.std.specs.List.{AllByRecursion}
-use Rattle.std.proofs.lemmas.Bool.Decides.{nat_tests}
 use Rattle.std.proofs.lemmas.List.{length-append}
 use Rattle.sb_base.specs.declared.geometry.Geometry.{Geometry}
 use Rattle.sb_base.specs.declared.entry.Entry.{Entry}
@@ -17,11 +16,11 @@ use Rattle.sb_nbd.proofs.OneForm.{one_request, split_same, same_4, regrouped, sa
 use Rattle.sb_nbd.proofs.RequestParts.{length-magic_bytes, length-fields_bytes}
 use Rattle.sb_session.specs.declared.end.SessionEnd.{SessionEnd}
 use Rattle.sb_session.specs.declared.end.SessionEnd.TheVariants.{Disconnected, Ended, Refused, ReadFault, WriteFault, Spent}
-use Rattle.sb_session.specs.Goals.{is_served, is_disc}
+use Rattle.sb_session.specs.Goals.{is_disc}
 use Rattle.sb_session.specs.Transcripts.{Exchange, IsTranscript, asking_bytes, requests_of}
 use Rattle.sb_session.specs.Handshakes.{end_of}
 use Rattle.sb_session.specs.Turns.{Stopped, StopsBy}
-use Rattle.sb_session.specs.Inputs.{bytes_of, IsServed, IsDisc, IsMalformed, IsRefused, EndsInput, IsInput, IsByInput}
+use Rattle.sb_session.specs.Inputs.{bytes_of, GoesOn, IsDisc, IsMalformed, EndsInput, IsInput, IsByInput}
 
 bytes_of-append : (xs ys : List Request) → bytes_of (xs ++ ys) ≡ bytes_of xs ++ bytes_of ys
 bytes_of-append [] ys = refl
@@ -35,17 +34,17 @@ asking_bytes-in_order (x ∷ xs) =
     ∙ ap (λ bytes. bytes_of (requests_of xs) ++ bytes) (sym (append-nil (request_bytes x.request)))
     ∙ sym (bytes_of-append (requests_of xs) (x.request ∷ []))
 
-served_join : (geometry : Geometry) (xs ys : List Request) → AllByRecursion (IsServed geometry) xs
-    → AllByRecursion (IsServed geometry) ys → AllByRecursion (IsServed geometry) (xs ++ ys)
-served_join geometry [] ys first second = second
-served_join geometry (x ∷ xs) ys first second = (first.0, served_join geometry xs ys first.1 second)
+going_on_join : (xs ys : List Request) → AllByRecursion GoesOn xs
+    → AllByRecursion GoesOn ys → AllByRecursion GoesOn (xs ++ ys)
+going_on_join [] ys first second = second
+going_on_join (x ∷ xs) ys first second = (first.0, going_on_join xs ys first.1 second)
 
-transcript_served : (geometry : Geometry) (xs : List Exchange) → IsTranscript geometry xs
-    → AllByRecursion (IsServed geometry) (requests_of xs)
-transcript_served geometry [] answered = tt
-transcript_served geometry (x ∷ xs) answered =
-    served_join geometry (requests_of xs) (x.request ∷ []) (transcript_served geometry xs answered.1)
-    (record { request = answered.0.request; served = answered.0.served }, tt)
+transcript_goes_on : (geometry : Geometry) (xs : List Exchange) → IsTranscript geometry xs
+    → AllByRecursion GoesOn (requests_of xs)
+transcript_goes_on geometry [] answered = tt
+transcript_goes_on geometry (x ∷ xs) answered =
+    going_on_join (requests_of xs) (x.request ∷ []) (transcript_goes_on geometry xs answered.1)
+    (record { request = answered.0.request; goes_on = answered.0.goes_on }, tt)
 
 long : (r : Request) (x : List ℕ) → 28 + length r.payload ≤ length (request_bytes r ++ x)
 long r x = omega (
@@ -99,54 +98,44 @@ length_magic magic = refl
 different : true ≡ false → ⊥
 different e = cc
 
--- a READ is no DISC
-served_goes_on : (geometry : Geometry) (w : Wanted) → is_served geometry w ≡ true → is_disc w ≡ true → ⊥
-served_goes_on geometry w served disc = grind (arith, nat_tests)
-
--- where a request that is served stands, an input doesn't end
-no_end : (geometry : Geometry) (r : Request) (x : List ℕ) (end : SessionEnd) → IsServed geometry r
-    → IsByInput end → EndsInput geometry (request_bytes r ++ x) end → ⊥
-no_end geometry r x Disconnected is by h =
+-- where a request that isn't DISC stands, an input doesn't end
+no_end : (r : Request) (x : List ℕ) (end : SessionEnd) → GoesOn r → IsByInput end
+    → EndsInput (request_bytes r ++ x) end → ⊥
+no_end r x Disconnected is by h =
     let same = (one_request r h.0 x h.1 is.request h.2.request h.3).0 in
-    served_goes_on geometry r.wanted is.served (ap (λ (q : Request). is_disc q.wanted) same ∙ h.2.disc)
-no_end geometry r x Ended is by h = omega (arith, ap length h, long r x)
-no_end geometry r x Refused is by (inl h) =
-    let same = (one_request r h.0 x h.1 is.request h.2.request h.3).0 in
-    different (sym is.served ∙ ap (λ (q : Request). is_served geometry q.wanted) same ∙ h.2.unserved)
-no_end geometry r x Refused is by (inr h) = no_malformed r x h.0 is.request h.1
-no_end geometry r x ReadFault is by h = by
-no_end geometry r x WriteFault is by h = by
-no_end geometry r x Spent is by h = by
+    different (sym h.2.disc ∙ ap (λ (q : Request). is_disc q.wanted) (sym same) ∙ is.goes_on)
+no_end r x Ended is by h = omega (arith, ap length h, long r x)
+no_end r x Refused is by h = no_malformed r x h.0 is.request h.1
+no_end r x ReadFault is by h = by
+no_end r x WriteFault is by h = by
+no_end r x Spent is by h = by
 
-pub one_reading : (geometry : Geometry) (rs ss : List Request) (t u : List ℕ) (e f : SessionEnd)
+pub one_reading : (rs ss : List Request) (t u : List ℕ) (e f : SessionEnd)
     → IsByInput e → IsByInput f
-    → AllByRecursion (IsServed geometry) rs → AllByRecursion (IsServed geometry) ss → EndsInput geometry t e
-    → EndsInput geometry u f → bytes_of rs ++ t ≡ bytes_of ss ++ u → (rs ≡ ss) × (t ≡ u)
-one_reading geometry [] [] t u e f by other first second ends ends_too same = (refl, same)
-one_reading geometry [] (s ∷ ss) t u e f by other first second ends ends_too same =
-    absurd (no_end geometry s (bytes_of ss ++ u) e second.0 by
-    (subst (λ tail. EndsInput geometry tail e) (same ∙ append_assoc (request_bytes s) (bytes_of ss) u) ends))
-one_reading geometry (r ∷ rs) [] t u e f by other first second ends ends_too same =
-    absurd (no_end geometry r (bytes_of rs ++ t) f first.0 other
-    (subst (λ tail. EndsInput geometry tail f)
+    → AllByRecursion GoesOn rs → AllByRecursion GoesOn ss → EndsInput t e
+    → EndsInput u f → bytes_of rs ++ t ≡ bytes_of ss ++ u → (rs ≡ ss) × (t ≡ u)
+one_reading [] [] t u e f by other first second ends ends_too same = (refl, same)
+one_reading [] (s ∷ ss) t u e f by other first second ends ends_too same =
+    absurd (no_end s (bytes_of ss ++ u) e second.0 by
+    (subst (λ tail. EndsInput tail e) (same ∙ append_assoc (request_bytes s) (bytes_of ss) u) ends))
+one_reading (r ∷ rs) [] t u e f by other first second ends ends_too same =
+    absurd (no_end r (bytes_of rs ++ t) f first.0 other
+    (subst (λ tail. EndsInput tail f)
     (sym same ∙ append_assoc (request_bytes r) (bytes_of rs) t) ends_too))
-one_reading geometry (r ∷ rs) (s ∷ ss) t u e f by other first second ends ends_too same =
+one_reading (r ∷ rs) (s ∷ ss) t u e f by other first second ends ends_too same =
     let split = one_request r s (bytes_of rs ++ t) (bytes_of ss ++ u) first.0.request second.0.request
     (sym (append_assoc (request_bytes r) (bytes_of rs) t) ∙ same
     ∙ append_assoc (request_bytes s) (bytes_of ss) u) in
-    let more = one_reading geometry rs ss t u e f by other first.1 second.1 ends ends_too split.1 in
+    let more = one_reading rs ss t u e f by other first.1 second.1 ends ends_too split.1 in
     (ap (λ q. q ∷ rs) split.0 ∙ ap (λ qs. s ∷ qs) more.0, more.1)
 
 request_not_empty : (r : Request) (after bytes : List ℕ) → bytes ≡ request_bytes r ++ after → bytes ≡ [] → ⊥
 request_not_empty r after bytes is none = omega (arith, ap length is, ap length none, long r after)
 
-disc_not_refused : (geometry : Geometry) (r : Request) (after bytes : List ℕ) → IsDisc r
-    → bytes ≡ request_bytes r ++ after → IsRefused geometry bytes → ⊥
-disc_not_refused geometry r after bytes is first (inl h) =
-    let same = (one_request r h.0 after h.1 is.request h.2.request (sym first ∙ h.3)).0 in
-    different (sym is.disc ∙ ap (λ (q : Request). is_disc q.wanted) same ∙ h.2.goes_on)
-disc_not_refused geometry r after bytes is first (inr h) =
-    no_malformed r after h.0 is.request (subst (λ all. IsMalformed all h.0) first h.1)
+disc_not_malformed : (r : Request) (after bytes : List ℕ) (end : NbdEnd) → IsDisc r
+    → bytes ≡ request_bytes r ++ after → IsMalformed bytes end → ⊥
+disc_not_malformed r after bytes end is first h =
+    no_malformed r after end is.request (subst (λ all. IsMalformed all end) first h)
 
 empty_not_malformed : (bytes : List ℕ) (end : NbdEnd) → bytes ≡ [] → IsMalformed bytes end → ⊥
 empty_not_malformed bytes nbd.Ended none h = h
@@ -165,42 +154,38 @@ empty_not_malformed bytes (nbd.TooBig size) none h =
 empty_not_malformed bytes nbd.ReadFault none h = h
 empty_not_malformed bytes nbd.WriteFault none h = h
 
-empty_not_refused : (geometry : Geometry) (bytes : List ℕ) → bytes ≡ [] → IsRefused geometry bytes → ⊥
-empty_not_refused geometry bytes none (inl h) = request_not_empty h.0 h.1 bytes h.3 none
-empty_not_refused geometry bytes none (inr h) = empty_not_malformed bytes h.0 none h.1
+same_end : (bytes : List ℕ) (e f : SessionEnd) → IsByInput e → IsByInput f
+    → EndsInput bytes e → EndsInput bytes f → e ≡ f
+same_end bytes ReadFault f by other h k = absurd by
+same_end bytes WriteFault f by other h k = absurd by
+same_end bytes Spent f by other h k = absurd by
+same_end bytes Disconnected Disconnected by other h k = refl
+same_end bytes Disconnected Ended by other h k = absurd (request_not_empty h.0 h.1 bytes h.3 k)
+same_end bytes Disconnected Refused by other h k = absurd (disc_not_malformed h.0 h.1 bytes k.0 h.2 h.3 k.1)
+same_end bytes Disconnected ReadFault by other h k = absurd other
+same_end bytes Disconnected WriteFault by other h k = absurd other
+same_end bytes Disconnected Spent by other h k = absurd other
+same_end bytes Ended Disconnected by other h k = absurd (request_not_empty k.0 k.1 bytes k.3 h)
+same_end bytes Ended Ended by other h k = refl
+same_end bytes Ended Refused by other h k = absurd (empty_not_malformed bytes k.0 h k.1)
+same_end bytes Ended ReadFault by other h k = absurd other
+same_end bytes Ended WriteFault by other h k = absurd other
+same_end bytes Ended Spent by other h k = absurd other
+same_end bytes Refused Disconnected by other h k = absurd (disc_not_malformed k.0 k.1 bytes h.0 k.2 k.3 h.1)
+same_end bytes Refused Ended by other h k = absurd (empty_not_malformed bytes h.0 k h.1)
+same_end bytes Refused Refused by other h k = refl
+same_end bytes Refused ReadFault by other h k = absurd other
+same_end bytes Refused WriteFault by other h k = absurd other
+same_end bytes Refused Spent by other h k = absurd other
 
-same_end : (geometry : Geometry) (bytes : List ℕ) (e f : SessionEnd) → IsByInput e → IsByInput f
-    → EndsInput geometry bytes e → EndsInput geometry bytes f → e ≡ f
-same_end geometry bytes ReadFault f by other h k = absurd by
-same_end geometry bytes WriteFault f by other h k = absurd by
-same_end geometry bytes Spent f by other h k = absurd by
-same_end geometry bytes Disconnected Disconnected by other h k = refl
-same_end geometry bytes Disconnected Ended by other h k = absurd (request_not_empty h.0 h.1 bytes h.3 k)
-same_end geometry bytes Disconnected Refused by other h k = absurd (disc_not_refused geometry h.0 h.1 bytes h.2 h.3 k)
-same_end geometry bytes Disconnected ReadFault by other h k = absurd other
-same_end geometry bytes Disconnected WriteFault by other h k = absurd other
-same_end geometry bytes Disconnected Spent by other h k = absurd other
-same_end geometry bytes Ended Disconnected by other h k = absurd (request_not_empty k.0 k.1 bytes k.3 h)
-same_end geometry bytes Ended Ended by other h k = refl
-same_end geometry bytes Ended Refused by other h k = absurd (empty_not_refused geometry bytes h k)
-same_end geometry bytes Ended ReadFault by other h k = absurd other
-same_end geometry bytes Ended WriteFault by other h k = absurd other
-same_end geometry bytes Ended Spent by other h k = absurd other
-same_end geometry bytes Refused Disconnected by other h k = absurd (disc_not_refused geometry k.0 k.1 bytes k.2 k.3 h)
-same_end geometry bytes Refused Ended by other h k = absurd (empty_not_refused geometry bytes k h)
-same_end geometry bytes Refused Refused by other h k = refl
-same_end geometry bytes Refused ReadFault by other h k = absurd other
-same_end geometry bytes Refused WriteFault by other h k = absurd other
-same_end geometry bytes Refused Spent by other h k = absurd other
-
-pub one_input : (geometry : Geometry) (bytes : List ℕ) (rs ss : List Request) (e f : SessionEnd)
-    → IsByInput e → IsByInput f → IsInput geometry bytes rs e → IsInput geometry bytes ss f → (rs ≡ ss) × (e ≡ f)
-one_input geometry bytes rs ss e f by other first second =
-    let same = one_reading geometry rs ss first.tail second.tail e f by other first.served second.served
+pub one_input : (bytes : List ℕ) (rs ss : List Request) (e f : SessionEnd)
+    → IsByInput e → IsByInput f → IsInput bytes rs e → IsInput bytes ss f → (rs ≡ ss) × (e ≡ f)
+one_input bytes rs ss e f by other first second =
+    let same = one_reading rs ss first.tail second.tail e f by other first.going_on second.going_on
     first.ends second.ends (sym first.whole ∙ second.whole) in (
       same.0,
-      same_end geometry second.tail e f by other
-          (subst (λ tail. EndsInput geometry tail e) same.1 first.ends) second.ends,
+      same_end second.tail e f by other
+          (subst (λ tail. EndsInput tail e) same.1 first.ends) second.ends,
     )
 
 -- where what is left is told, the bytes that ended reading and those that are left begin no request
@@ -226,26 +211,21 @@ malformed now tail rest (nbd.TooBig size) told stops e = (
 malformed now tail rest nbd.ReadFault told stops e = cc
 malformed now tail rest nbd.WriteFault told stops e = absurd stops
 
-refused : (geometry : Geometry) (now : Option (List ℕ)) (tail rest : List ℕ) → now ≡ Some rest
-    → StopsBy geometry now tail Refused → IsRefused geometry (tail ++ rest)
-refused geometry now tail rest told (inl h) = inl (h.0, rest, h.1, ap (λ bytes. bytes ++ rest) h.2)
-refused geometry now tail rest told (inr h) = inr (h.0, malformed now tail rest h.0 told h.1 h.2)
-
-ends_input : (geometry : Geometry) (now : Option (List ℕ)) (tail rest : List ℕ) (end : SessionEnd)
-    → now ≡ Some rest → StopsBy geometry now tail end → EndsInput geometry (tail ++ rest) end
-ends_input geometry now tail rest Disconnected told stops =
+ends_input : (now : Option (List ℕ)) (tail rest : List ℕ) (end : SessionEnd)
+    → now ≡ Some rest → StopsBy now tail end → EndsInput (tail ++ rest) end
+ends_input now tail rest Disconnected told stops =
     (stops.0, rest, stops.1, ap (λ bytes. bytes ++ rest) stops.2)
-ends_input geometry now tail rest Ended told stops = ap (λ bytes. bytes ++ rest) stops.0 ∙ stops.1 rest told
-ends_input geometry now tail rest Refused told stops = refused geometry now tail rest told stops
-ends_input geometry now tail rest ReadFault told stops = tt
-ends_input geometry now tail rest WriteFault told stops = tt
-ends_input geometry now tail rest Spent told stops = tt
+ends_input now tail rest Ended told stops = ap (λ bytes. bytes ++ rest) stops.0 ∙ stops.1 rest told
+ends_input now tail rest Refused told stops = (stops.0, malformed now tail rest stops.0 told stops.1 stops.2)
+ends_input now tail rest ReadFault told stops = tt
+ends_input now tail rest WriteFault told stops = tt
+ends_input now tail rest Spent told stops = tt
 
 -- the requests that a session answered are all there are, up to what ended it
 pub all_answered : (geometry : Geometry) (before now ha hb : Option (List ℕ))
     (did : List Entry → List Call → Type 0) (end : SessionEnd) (n : ℕ) (rest : List ℕ) → now ≡ Some rest
     → (s : Stopped geometry before now ha hb did end n)
-    → (bytes : List ℕ) × (before ≡ Some bytes) × IsInput geometry bytes (requests_of s.transcript) end
+    → (bytes : List ℕ) × (before ≡ Some bytes) × IsInput bytes (requests_of s.transcript) end
 all_answered geometry before now ha hb did end n rest told s = (
   _,
   s.taken.told rest told,
@@ -253,7 +233,7 @@ all_answered geometry before now ha hb did end n rest told s = (
     tail = s.tail ++ rest;
     whole = append_assoc (asking_bytes s.transcript) s.tail rest
         ∙ ap (λ bytes. bytes ++ (s.tail ++ rest)) (asking_bytes-in_order s.transcript);
-    served = transcript_served geometry s.transcript s.answered;
-    ends = ends_input geometry now s.tail rest end told s.stops;
+    going_on = transcript_goes_on geometry s.transcript s.answered;
+    ends = ends_input now s.tail rest end told s.stops;
   },
 )

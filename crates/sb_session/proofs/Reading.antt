@@ -1,7 +1,7 @@
--- Reading a range, part by part.
-use Rattle.std.proofs.Common.{ℕ, ◌≡◌, ◌≤◌, ◌+◌, ◌-◌, ◌∙◌, List, [], ◌∷◌, ◌++◌, length, take, drop, Ok, Err, sum_by, length-take, length-drop, append_assoc, append-nil, ap, sym, subst, refl, arith, inl, inr}
+-- Reading and writing ranges, part by part, and the replies.
+use Rattle.std.proofs.Common.{ℕ, ◌≡◌, ◌≤◌, ◌<◌, ◌+◌, ◌-◌, ◌∙◌, List, [], ◌∷◌, ◌++◌, length, take, drop, Ok, Err, sum_by, Some, length-take, length-drop, append_assoc, append-nil, ap, sym, subst, refl, arith, inl, inr}
 use Rattle.std.specs.List.{AllByRecursion}
-use Rattle.std.proofs.lemmas.List.{length-append}
+use Rattle.std.proofs.lemmas.List.{length-append, drop-drop}
 use Rattle.std.proofs.lemmas.List.Sums.{sum_by-append, sum_by-cons}
 use Rattle.std.proofs.lemmas.Slice.{take-put_mid}
 use borrow.Rule.Slice.PartMut.{put_mid}
@@ -9,11 +9,11 @@ use Rattle.sb_base.specs.declared.geometry.Geometry.{Geometry}
 use Rattle.sb_base.specs.declared.part.Part.{Part}
 use Rattle.sb_base.specs.declared.entry.Entry.{Entry}
 use Rattle.sb_world.specs.declared.link.Call.{Call}
-use Rattle.sb_nbd.specs.declared.wanted.Wanted.{Wanted}
+use Rattle.sb_nbd.specs.Requests.{Request}
 use Rattle.sb_crew.specs.declared.calls.CallFault.{CallFault}
-use Rattle.sb_crew.specs.Outcomes.{ReadDone, outcome_of, outcomes_of, bytes_of, bytes_read, asked_of, blocks_asked, IsBlockOf, AsksOnly, HasCause, ReadDoes}
-use Rattle.sb_session.specs.Goals.{parts_wanted, reads_of}
-use Rattle.sb_session.specs.Answers.{ReadsRange, Answers, error_of}
+use Rattle.sb_crew.specs.Outcomes.{Outcome, ReadDone, outcome_of, outcomes_of, bytes_of, bytes_read, asked_of, blocks_asked, IsBlockOf, AsksOnly, HasCause, ReadDoes, Does, Stops, WriteDone, WriteDoes, FlushDoes, flush_of}
+use Rattle.sb_session.specs.Goals.{refusal, reads_of, writes_of}
+use Rattle.sb_session.specs.Answers.{ReadsRange, WritesRange, IsAnswer, ReadAnswers, WriteAnswers, FlushAnswers, Answers, AnswersBy, parts_asked, error_of}
 
 pub outcomes_of-append : (xs ys : List Entry) → outcomes_of (ys ++ xs) ≡ outcomes_of ys ++ outcomes_of xs
 outcomes_of-append xs [] = refl
@@ -75,67 +75,21 @@ asks_more ps qs xs ys first second =
           (all_both P (blocks_asked xs) (blocks_asked ys) before after);
     }
 
--- what came so far with what came for one part
-bytes_more : (at : ℕ) (room out : List ℕ) (n m : ℕ) → length out ≡ n → at + n ≤ length room
-    → take at room ++ out ≡ take (at + n) (put_mid at m room out)
-bytes_more at room out n m len within = sym
-    (take-put_mid at m room out (at + n) (omega (arith, len)) (omega (arith, len, within)))
+pub asks_failed : (ps qs : List Part) (p : Part) (xs ys : List Entry) → AsksOnly ps xs
+    → AsksOnly (p ∷ []) ys → AsksOnly (ps ++ p ∷ qs) (ys ++ xs)
+asks_failed ps qs p xs ys first second =
+    subst (λ all. AsksOnly all (ys ++ xs)) (append_assoc ps (p ∷ []) qs)
+    (asks_wider (ps ++ p ∷ []) qs (ys ++ xs) (asks_more ps (p ∷ []) xs ys first second))
 
--- nothing was read yet
-pub range_none : (did : List Entry → List Call → Type 0) (room : List ℕ) → did [] []
-    → ReadsRange did [] 0 room (Ok tt)
-range_none did room done = record {
-  entries = [];
-  calls = [];
-  done = done;
-  ends = (refl, refl);
-  asks =
-      record { asked = tt };
-}
-
--- some parts were read, and one more
-pub range_more : (P Q R : List Entry → List Call → Type 0)
-    → ((xs ys : List Entry) (us vs : List Call) → P xs us → Q ys vs → R (ys ++ xs) (vs ++ us))
-    → (ps : List Part) (p : Part) (at m : ℕ) (room out : List ℕ) → length out ≡ p.length → at + p.length ≤ length room
-    → ReadsRange P ps at room (Ok tt) → ReadDoes Q p out (Ok tt)
-    → ReadsRange R (ps ++ p ∷ []) (at + p.length) (put_mid at m room out) (Ok tt)
-range_more P Q R both ps p at m room out len within first second = record {
-  entries = second.entries ++ first.entries;
-  calls = second.calls ++ first.calls;
-  done = both first.entries second.entries first.calls second.calls first.done second.done;
-  ends = (
-    outcomes_of-append first.entries second.entries
-        ∙ ap (λ os. os ++ outcomes_of first.entries) second.ends.0 ∙ ap (λ os. ReadDone p ∷ os) first.ends.0
-        ∙ sym (reads_of-append ps (p ∷ [])),
-    bytes_read-append first.entries second.entries
-        ∙ ap (λ bytes. bytes ++ bytes_read second.entries) first.ends.1
-        ∙ ap (λ bytes. take at room ++ bytes) second.ends.1 ∙ bytes_more at room out p.length m len within,
-  );
-  asks = asks_more ps (p ∷ []) first.entries second.entries first.asks second.asks;
-}
-
--- some parts were read, and then a call failed
-pub range_stops : (P Q R : List Entry → List Call → Type 0)
-    → ((xs ys : List Entry) (us vs : List Call) → P xs us → Q ys vs → R (ys ++ xs) (vs ++ us))
-    → (ps qs : List Part) (p : Part) (at count : ℕ) (room now out : List ℕ) (fault : CallFault)
-    → ReadsRange P ps at room (Ok tt) → ReadDoes Q p out (Err fault)
-    → ReadsRange R (ps ++ p ∷ qs) count now (Err fault)
-range_stops P Q R both ps qs p at count room now out fault first second = record {
-  entries = second.entries ++ first.entries;
-  calls = second.calls ++ first.calls;
-  done = both first.entries second.entries first.calls second.calls first.done second.done;
-  ends = record {
-    missing = reads_of (p ∷ qs);
-    some = omega (arith, length-append (reads_of qs) (ReadDone p ∷ []));
-    met = ap (λ os. reads_of (p ∷ qs) ++ os)
-        (outcomes_of-append first.entries second.entries
-        ∙ ap (λ os. os ++ outcomes_of first.entries) second.ends.0 ∙ first.ends.0)
-        ∙ sym (reads_of-append ps (p ∷ qs));
-    cause = cause_stays fault first.entries second.entries first.calls second.calls second.ends.1;
-  };
-  asks = subst (λ all. AsksOnly all (second.entries ++ first.entries)) (append_assoc ps (p ∷ []) qs)
-      (asks_wider (ps ++ p ∷ []) qs (second.entries ++ first.entries)
-      (asks_more ps (p ∷ []) first.entries second.entries first.asks second.asks));
+-- a front of a goal was met, and then a call failed
+pub stops_after : (goal missing before : List Outcome) (xs ys : List Entry) (us vs : List Call)
+    (fault : CallFault) → 0 < length missing → missing ++ before ≡ goal → outcomes_of xs ≡ before
+    → outcomes_of ys ≡ [] → HasCause fault ys vs → Stops goal (ys ++ xs) (vs ++ us) fault
+stops_after goal missing before xs ys us vs fault some whole first second cause = record {
+  missing = missing;
+  some = some;
+  met = ap (λ os. missing ++ os) (outcomes_of-append xs ys ∙ ap (λ os. os ++ outcomes_of xs) second ∙ first) ∙ whole;
+  cause = cause_stays fault xs ys us vs cause;
 }
 
 -- how many bytes a part has
@@ -159,27 +113,217 @@ length_more ps p at before = omega (arith, before, sum_by-append length_of ps (p
 pub length_piece : (at n : ℕ) (room : List ℕ) → at + n ≤ length room → length (take (at + n - at) (drop at room)) ≡ n
 length_piece at n room h = omega (arith, length-take (at + n - at) (drop at room), length-drop at room, h)
 
--- the reply to a range that was read
-pub range_answers : (did : List Entry → List Call → Type 0) (geometry : Geometry) (w : Wanted) (count : ℕ)
-    (room : List ℕ)
-    → ReadsRange did (parts_wanted geometry w) count room (Ok tt) → Answers did geometry w 0 (take count room)
-range_answers did geometry w count room read = record {
-  entries = read.entries;
-  calls = read.calls;
-  done = read.done;
-  asks = read.asks;
-  answer = inl (record { met = read.ends.0; no_error = refl; bytes = sym read.ends.1 });
+-- what came so far with what came for one part
+bytes_more : (at : ℕ) (room out : List ℕ) (n m : ℕ) → length out ≡ n → at + n ≤ length room
+    → take at room ++ out ≡ take (at + n) (put_mid at m room out)
+bytes_more at room out n m len within = sym
+    (take-put_mid at m room out (at + n) (omega (arith, len)) (omega (arith, len, within)))
+
+-- nothing was read yet
+pub reads_none : (did : List Entry → List Call → Type 0) (room : List ℕ) → did [] []
+    → ReadsRange did [] 0 room (Ok tt)
+reads_none did room done = record {
+  entries = [];
+  calls = [];
+  done = done;
+  ends = (refl, refl);
+  asks =
+      record { asked = tt };
 }
 
+-- some parts were read, and one more
+pub reads_more : (P Q R : List Entry → List Call → Type 0)
+    → ((xs ys : List Entry) (us vs : List Call) → P xs us → Q ys vs → R (ys ++ xs) (vs ++ us))
+    → (ps : List Part) (p : Part) (at m : ℕ) (room out : List ℕ) → length out ≡ p.length → at + p.length ≤ length room
+    → ReadsRange P ps at room (Ok tt) → ReadDoes Q p out (Ok tt)
+    → ReadsRange R (ps ++ p ∷ []) (at + p.length) (put_mid at m room out) (Ok tt)
+reads_more P Q R both ps p at m room out len within first second = record {
+  entries = second.entries ++ first.entries;
+  calls = second.calls ++ first.calls;
+  done = both first.entries second.entries first.calls second.calls first.done second.done;
+  ends = (
+    outcomes_of-append first.entries second.entries
+        ∙ ap (λ os. os ++ outcomes_of first.entries) second.ends.0 ∙ ap (λ os. ReadDone p ∷ os) first.ends.0
+        ∙ sym (reads_of-append ps (p ∷ [])),
+    bytes_read-append first.entries second.entries
+        ∙ ap (λ bytes. bytes ++ bytes_read second.entries) first.ends.1
+        ∙ ap (λ bytes. take at room ++ bytes) second.ends.1 ∙ bytes_more at room out p.length m len within,
+  );
+  asks = asks_more ps (p ∷ []) first.entries second.entries first.asks second.asks;
+}
+
+-- some parts were read, and then a call failed
+pub reads_stop : (P Q R : List Entry → List Call → Type 0)
+    → ((xs ys : List Entry) (us vs : List Call) → P xs us → Q ys vs → R (ys ++ xs) (vs ++ us))
+    → (ps qs : List Part) (p : Part) (at count : ℕ) (room now out : List ℕ) (fault : CallFault)
+    → ReadsRange P ps at room (Ok tt) → ReadDoes Q p out (Err fault)
+    → ReadsRange R (ps ++ p ∷ qs) count now (Err fault)
+reads_stop P Q R both ps qs p at count room now out fault first second = record {
+  entries = second.entries ++ first.entries;
+  calls = second.calls ++ first.calls;
+  done = both first.entries second.entries first.calls second.calls first.done second.done;
+  ends = stops_after (reads_of (ps ++ p ∷ qs)) (reads_of (p ∷ qs))
+      (reads_of ps) first.entries second.entries first.calls second.calls fault
+      (omega (arith, length-append (reads_of qs) (ReadDone p ∷ [])))
+      (sym (reads_of-append ps (p ∷ qs))) first.ends.0 second.ends.0 second.ends.1;
+  asks = asks_failed ps qs p first.entries second.entries first.asks second.asks;
+}
+
+pub writes_of-append : (ps qs : List Part) (payload : List ℕ)
+    → writes_of (ps ++ qs) payload ≡ writes_of qs (drop (sum_by length_of ps) payload) ++ writes_of ps payload
+writes_of-append [] qs payload = sym (append-nil (writes_of qs payload))
+writes_of-append (p ∷ ps) qs payload =
+    let after = drop p.length payload in
+    let last = WriteDone p (take p.length payload) ∷ [] in
+    let behind : drop (sum_by length_of ps) after ≡ drop (sum_by length_of (p ∷ ps)) payload =
+    drop-drop (sum_by length_of ps) p.length payload
+    ∙ ap (λ n. drop n payload) (sym (sum_by-cons length_of p ps)) in
+    ap (λ os. os ++ last) (writes_of-append ps qs after)
+    ∙ append_assoc (writes_of qs (drop (sum_by length_of ps) after)) (writes_of ps after) last
+    ∙ ap (λ bytes. writes_of qs bytes ++ (writes_of ps after ++ last)) behind
+
+-- nothing was written yet
+pub writes_none : (did : List Entry → List Call → Type 0) (payload : List ℕ) → did [] []
+    → WritesRange did [] payload (Ok tt)
+writes_none did payload done = record {
+  entries = [];
+  calls = [];
+  done = done;
+  ends = refl;
+  asks =
+      record { asked = tt };
+}
+
+-- some parts were written, and one more
+pub writes_more : (P Q R : List Entry → List Call → Type 0)
+    → ((xs ys : List Entry) (us vs : List Call) → P xs us → Q ys vs → R (ys ++ xs) (vs ++ us))
+    → (ps : List Part) (p : Part) (at : ℕ) (payload : List ℕ) → at ≡ sum_by (λ (part : Part). part.length) ps
+    → WritesRange P ps payload (Ok tt) → WriteDoes Q p (take (at + p.length - at) (drop at payload)) (Ok tt)
+    → WritesRange R (ps ++ p ∷ []) payload (Ok tt)
+writes_more P Q R both ps p at payload is first second =
+    let width : at + p.length - at ≡ p.length = omega arith in
+    let given = ap (λ n. WriteDone p (take n (drop at payload)) ∷ []) width
+    ∙ ap (λ n. WriteDone p (take p.length (drop n payload)) ∷ []) is in
+    record {
+      entries = second.entries ++ first.entries;
+      calls = second.calls ++ first.calls;
+      done = both first.entries second.entries first.calls second.calls first.done second.done;
+      ends = outcomes_of-append first.entries second.entries
+          ∙ ap (λ os. os ++ outcomes_of first.entries) (second.ends ∙ given)
+          ∙ ap (λ os. WriteDone p (take p.length (drop (sum_by length_of ps) payload)) ∷ os) first.ends
+          ∙ sym (writes_of-append ps (p ∷ []) payload);
+      asks = asks_more ps (p ∷ []) first.entries second.entries first.asks second.asks;
+    }
+
+-- some parts were written, and then a call failed
+pub writes_stop : (P Q R : List Entry → List Call → Type 0)
+    → ((xs ys : List Entry) (us vs : List Call) → P xs us → Q ys vs → R (ys ++ xs) (vs ++ us))
+    → (ps qs : List Part) (p : Part) (payload bytes : List ℕ) (fault : CallFault)
+    → WritesRange P ps payload (Ok tt) → WriteDoes Q p bytes (Err fault)
+    → WritesRange R (ps ++ p ∷ qs) payload (Err fault)
+writes_stop P Q R both ps qs p payload bytes fault first second =
+    let after = drop (sum_by length_of ps) payload in
+    record {
+      entries = second.entries ++ first.entries;
+      calls = second.calls ++ first.calls;
+      done = both first.entries second.entries first.calls second.calls first.done second.done;
+      ends = stops_after (writes_of (ps ++ p ∷ qs) payload) (writes_of (p ∷ qs) after)
+          (writes_of ps payload) first.entries second.entries first.calls second.calls fault
+          (omega (
+            arith,
+            length-append (writes_of qs (drop p.length after))
+                (WriteDone p (take p.length after) ∷ []),
+          ))
+          (sym (writes_of-append ps (p ∷ qs) payload)) first.ends second.ends.0 second.ends.1;
+      asks = asks_failed ps qs p first.entries second.entries first.asks second.asks;
+    }
+
+-- the reply to a goal that was met
+completes : (goal : List Outcome) (bytes : List ℕ) (entries : List Entry) (calls : List Call)
+    → outcomes_of entries ≡ goal → IsAnswer goal bytes entries calls 0 bytes
+completes goal bytes entries calls met = inl (record { met = met; no_error = refl; body_is = refl })
+
 -- the reply to one that wasn't
-pub range_fails : (did : List Entry → List Call → Type 0) (geometry : Geometry) (w : Wanted)
-    (count error : ℕ) (room : List ℕ) (fault : CallFault)
-    → error ≡ error_of fault → ReadsRange did (parts_wanted geometry w) count room (Err fault)
-    → Answers did geometry w error []
-range_fails did geometry w count error room fault is read = record {
+fails : (goal : List Outcome) (bytes : List ℕ) (entries : List Entry) (calls : List Call)
+    (fault : CallFault) (error : ℕ) → error ≡ error_of fault → Stops goal entries calls fault
+    → IsAnswer goal bytes entries calls error []
+fails goal bytes entries calls fault error is stops =
+    inr (record { fault = fault; stops = stops; number = is; no_bytes = refl })
+
+pub read_answers : (did : List Entry → List Call → Type 0) (parts : List Part) (count : ℕ) (room : List ℕ)
+    → ReadsRange did parts count room (Ok tt) → ReadAnswers did parts 0 (take count room)
+read_answers did parts count room read = record {
   entries = read.entries;
   calls = read.calls;
   done = read.done;
   asks = read.asks;
-  answer = inr (record { fault = fault; stops = read.ends; number = is; no_bytes = refl });
+  ends = inl (record { met = read.ends.0; no_error = refl; body_is = sym read.ends.1 });
 }
+
+pub read_fails : (did : List Entry → List Call → Type 0) (parts : List Part) (count error : ℕ)
+    (room : List ℕ) (fault : CallFault) → error ≡ error_of fault
+    → ReadsRange did parts count room (Err fault) → ReadAnswers did parts error []
+read_fails did parts count error room fault is read = record {
+  entries = read.entries;
+  calls = read.calls;
+  done = read.done;
+  asks = read.asks;
+  ends = fails (reads_of parts) (bytes_read read.entries) read.entries read.calls fault error is read.ends;
+}
+
+pub write_answers : (did : List Entry → List Call → Type 0) (parts : List Part) (payload : List ℕ)
+    → WritesRange did parts payload (Ok tt) → WriteAnswers did parts payload 0
+write_answers did parts payload written = record {
+  entries = written.entries;
+  calls = written.calls;
+  done = written.done;
+  asks = written.asks;
+  ends = completes (writes_of parts payload) [] written.entries written.calls written.ends;
+}
+
+pub write_fails : (did : List Entry → List Call → Type 0) (parts : List Part) (payload : List ℕ) (error : ℕ)
+    (fault : CallFault) → error ≡ error_of fault → WritesRange did parts payload (Err fault)
+    → WriteAnswers did parts payload error
+write_fails did parts payload error fault is written = record {
+  entries = written.entries;
+  calls = written.calls;
+  done = written.done;
+  asks = written.asks;
+  ends = fails (writes_of parts payload) [] written.entries written.calls fault error is written.ends;
+}
+
+pub flush_answers : (did : List Entry → List Call → Type 0) → FlushDoes did (Ok tt) → FlushAnswers did 0
+flush_answers did flushed = record {
+  entries = flushed.entries;
+  calls = flushed.calls;
+  done = flushed.done;
+  asks = flushed.asks;
+  ends = (flushed.ends.0, completes (flush_of flushed.ends.0) [] flushed.entries flushed.calls flushed.ends.1);
+}
+
+pub flush_fails : (did : List Entry → List Call → Type 0) (error : ℕ) (fault : CallFault)
+    → error ≡ error_of fault → FlushDoes did (Err fault) → FlushAnswers did error
+flush_fails did error fault is flushed = record {
+  entries = flushed.entries;
+  calls = flushed.calls;
+  done = flushed.done;
+  asks = flushed.asks;
+  ends = (
+    flushed.ends.0,
+    fails (flush_of flushed.ends.0) [] flushed.entries flushed.calls fault error is
+        flushed.ends.1,
+  );
+}
+
+-- the reply to a request that is refused
+pub refused_answers : (did : List Entry → List Call → Type 0) (geometry : Geometry) (r : Request) (error : ℕ)
+    → refusal geometry r.wanted ≡ Some error → did [] [] → Answers did geometry r error []
+refused_answers did geometry r error is done =
+    let refused : Does did [] (AnswersBy (Some error) geometry r error []) = record {
+      entries = [];
+      calls = [];
+      done = done;
+      asks = record { asked = tt };
+      ends = record { no_entries = refl; no_calls = refl; number = refl; no_bytes = refl };
+    } in
+    subst (λ code. Does did (parts_asked code geometry r) (AnswersBy code geometry r error [])) (sym is) refused

@@ -1,5 +1,5 @@
 -- What one request comes to.
-use Rattle.std.proofs.Common.{ℕ, ◌≡◌, ◌≢◌, List, [], ◌∷◌, ◌++◌, Option, Err, true, false, append-nil, sym, subst, refl, arith, inl, inr}
+use Rattle.std.proofs.Common.{ℕ, ◌≡◌, ◌≢◌, List, [], ◌∷◌, ◌++◌, Option, Err, true, false, append-nil, sym, subst, refl, arith}
 use Rattle.sb_base.specs.declared.geometry.Geometry.{Geometry}
 use Rattle.sb_base.specs.declared.entry.Entry.{Entry}
 use Rattle.sb_world.specs.Streams.{Takes, Holds, WriteHolds}
@@ -11,22 +11,22 @@ use Rattle.sb_nbd.specs.RequestReading.{StopsRequest}
 use Rattle.sb_nbd.specs.Replies.{reply_bytes}
 use Rattle.sb_world.proofs.Streaming.{holds_nothing}
 use Rattle.sb_session.specs.declared.end.SessionEnd.{SessionEnd}
-use Rattle.sb_session.specs.declared.end.SessionEnd.TheVariants.{Disconnected, Refused, WriteFault, Spent}
-use Rattle.sb_session.specs.Goals.{is_served, is_disc}
+use Rattle.sb_session.specs.declared.end.SessionEnd.TheVariants.{Disconnected, WriteFault, Spent}
+use Rattle.sb_session.specs.Goals.{is_disc}
 use Rattle.sb_session.specs.Answers.{Answers}
 use Rattle.sb_session.specs.Transcripts.{Exchange}
 use Rattle.sb_session.specs.Handshakes.{end_of}
 use Rattle.sb_session.specs.Turns.{StopsBy, Serves, TurnEnds}
 
-stops_by : (geometry : Geometry) (now : Option (List ℕ)) (bytes : List ℕ) (end : NbdEnd)
-    → StopsRequest now bytes end → StopsBy geometry now bytes (end_of end)
-stops_by geometry now bytes nbd.Ended h = h
-stops_by geometry now bytes (nbd.Cut got) h = inr (nbd.Cut got, h, refl)
-stops_by geometry now bytes (nbd.BadMagic magic) h = inr (nbd.BadMagic magic, h, refl)
-stops_by geometry now bytes (nbd.BadFlags flags) h = absurd h
-stops_by geometry now bytes (nbd.TooBig size) h = inr (nbd.TooBig size, h, refl)
-stops_by geometry now bytes nbd.ReadFault h = tt
-stops_by geometry now bytes nbd.WriteFault h = absurd h
+stops_by : (now : Option (List ℕ)) (bytes : List ℕ) (end : NbdEnd)
+    → StopsRequest now bytes end → StopsBy now bytes (end_of end)
+stops_by now bytes nbd.Ended h = h
+stops_by now bytes (nbd.Cut got) h = (nbd.Cut got, h, refl)
+stops_by now bytes (nbd.BadMagic magic) h = (nbd.BadMagic magic, h, refl)
+stops_by now bytes (nbd.BadFlags flags) h = absurd h
+stops_by now bytes (nbd.TooBig size) h = (nbd.TooBig size, h, refl)
+stops_by now bytes nbd.ReadFault h = tt
+stops_by now bytes nbd.WriteFault h = absurd h
 
 end_unspent : (end : NbdEnd) → end_of end ≢ Spent
 end_unspent nbd.Ended e = cc
@@ -40,7 +40,7 @@ end_unspent nbd.WriteFault e = cc
 -- no request, and bytes that end the session
 stops_at_once : (geometry : Geometry) (a b h : Option (List ℕ)) (did : List Entry → List Call → Type 0)
     (tail : List ℕ) (end : SessionEnd)
-    → did [] [] → Takes a b tail → StopsBy geometry b tail end → end ≢ Spent → TurnEnds geometry a b h h did (Err end)
+    → did [] [] → Takes a b tail → StopsBy b tail end → end ≢ Spent → TurnEnds geometry a b h h did (Err end)
 stops_at_once geometry a b h did tail end done taken stops unspent = record {
   n = 0;
   within = omega arith;
@@ -65,7 +65,7 @@ pub reading_stops : (geometry : Geometry) (a b h : Option (List ℕ)) (did : Lis
     → did [] [] → ((bytes : List ℕ) × Takes a b bytes × StopsRequest b bytes end)
     → TurnEnds geometry a b h h did (Err (end_of end))
 reading_stops geometry a b h did end done read =
-    stops_at_once geometry a b h did read.0 (end_of end) done read.1 (stops_by geometry b read.0 end read.2)
+    stops_at_once geometry a b h did read.0 (end_of end) done read.1 (stops_by b read.0 end read.2)
     (end_unspent end)
 
 pub disc_stops : (geometry : Geometry) (a b h : Option (List ℕ)) (did : List Entry → List Call → Type 0) (r : Request)
@@ -75,25 +75,9 @@ disc_stops geometry a b h did r done is disc taken =
     stops_at_once geometry a b h did (request_bytes r) Disconnected done taken
     (r, record { request = is; disc = disc }, refl) (λ e. cc)
 
-pub unserved_stops : (geometry : Geometry) (a b h : Option (List ℕ)) (did : List Entry → List Call → Type 0)
-    (r : Request)
-    → did [] [] → IsRequest r → is_served geometry r.wanted ≡ false → is_disc r.wanted ≡ false
-    → Takes a b (request_bytes r) → TurnEnds geometry a b h h did (Err Refused)
-unserved_stops geometry a b h did r done is unserved goes_on taken =
-    stops_at_once geometry a b h did (request_bytes r) Refused done taken
-    (inl (r, record { request = is; unserved = unserved; goes_on = goes_on }, refl)) (λ e. cc)
-
 -- the exchange of a request that was done
-abbrev exchange : {did : List Entry → List Call → Type 0} {geometry : Geometry} {error : ℕ} {body : List ℕ}
-    → (r : Request) → Answers did geometry r.wanted error body → Exchange
-exchange {error} {body} r answers = record {
-  request = r;
-  entries = answers.entries;
-  calls =
-      answers.calls;
-  error = error;
-  body = body;
-}
+abbrev exchange : Request → List Entry → List Call → ℕ → List ℕ → Exchange
+exchange r entries calls error body = record { request = r; entries = entries; calls = calls; error = error; body = body }
 
 -- what one exchange did
 did_one : (did : List Entry → List Call → Type 0) (entries : List Entry) (calls : List Call)
@@ -103,13 +87,13 @@ did_one did entries calls done = subst (λ es. did es (calls ++ [])) (sym (appen
 
 pub serves_one : (geometry : Geometry) (a b ha hb : Option (List ℕ)) (did : List Entry → List Call → Type 0)
     (r : Request) (error : ℕ) (body : List ℕ)
-    → IsRequest r → is_served geometry r.wanted ≡ true → Answers did geometry r.wanted error body
+    → IsRequest r → is_disc r.wanted ≡ false → Answers did geometry r error body
     → Takes a b (request_bytes r) → Holds ha hb (reply_bytes error r.wanted.cookie body)
     → Serves geometry a b ha hb did 1
-serves_one geometry a b ha hb did r error body is served answers taken held = record {
-  transcript = exchange r answers ∷ [];
+serves_one geometry a b ha hb did r error body is goes_on answers taken held = record {
+  transcript = exchange r answers.entries answers.calls error body ∷ [];
   count = refl;
-  answered = (record { request = is; served = served; answer = answers.answer; asks = answers.asks }, tt);
+  answered = (record { request = is; goes_on = goes_on; answer = answers.ends; asks = answers.asks }, tt);
   done = did_one did answers.entries answers.calls answers.done;
   taken = taken;
   held = held;
@@ -117,18 +101,18 @@ serves_one geometry a b ha hb did r error body is served answers taken held = re
 
 pub writing_stops : (geometry : Geometry) (a b ha hb : Option (List ℕ))
     (did : List Entry → List Call → Type 0) (r : Request) (error : ℕ) (body : List ℕ) (fault : NbdEnd)
-    → IsRequest r → is_served geometry r.wanted ≡ true → Answers did geometry r.wanted error body
+    → IsRequest r → is_disc r.wanted ≡ false → Answers did geometry r error body
     → Takes a b (request_bytes r) → WriteHolds ha hb (Err fault) (reply_bytes error r.wanted.cookie body)
     → TurnEnds geometry a b ha hb did (Err WriteFault)
-writing_stops geometry a b ha hb did r error body fault is served answers taken held = record {
+writing_stops geometry a b ha hb did r error body fault is goes_on answers taken held = record {
   n = 1;
   within = omega arith;
   one = λ _. refl;
   unspent = λ e. cc;
   stopped = record {
-    transcript = exchange r answers ∷ [];
+    transcript = exchange r answers.entries answers.calls error body ∷ [];
     count = refl;
-    answered = (record { request = is; served = served; answer = answers.answer; asks = answers.asks }, tt);
+    answered = (record { request = is; goes_on = goes_on; answer = answers.ends; asks = answers.asks }, tt);
     done = did_one did answers.entries answers.calls answers.done;
     tail = [];
     taken = subst (Takes a b) (sym (append-nil (request_bytes r))) taken;

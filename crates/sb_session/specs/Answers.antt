@@ -1,47 +1,46 @@
 -- What doing a request came to. Entries and calls of the link are newest first.
-use Rattle.std.specs.Prelude.{ℕ, ◌≡◌, ◌<◌, ◌⊎◌, List, [], ◌++◌, length, take, Result, Ok, Err}
+use Rattle.std.specs.Prelude.{ℕ, ◌≡◌, ◌⊎◌, List, [], take, Option, Some, None, Result, Ok, Err}
 use Rattle.sb_base.specs.declared.geometry.Geometry.{Geometry}
 use Rattle.sb_base.specs.declared.part.Part.{Part}
 use Rattle.sb_base.specs.declared.entry.Entry.{Entry}
 use Rattle.sb_world.specs.declared.link.Call.{Call}
-use Rattle.sb_nbd.specs.declared.wanted.Wanted.{Wanted}
+use Rattle.sb_nbd.specs.declared.reply.TheConstants.{EIO, ENOMEM}
+use Rattle.sb_nbd.specs.Requests.{Request}
 use Rattle.sb_crew.specs.declared.calls.CallFault.{CallFault}
 use Rattle.sb_crew.specs.declared.calls.CallFault.TheVariants.{StoreFault, Memory}
-use Rattle.sb_crew.specs.Outcomes.{Outcome, outcomes_of, bytes_read, AsksOnly, HasCause}
-use Rattle.sb_session.specs.Goals.{parts_wanted, reads_of, goal_of}
-
--- a proper front of a goal was met, and then a call of the disk failed so
-pub record Stops (goal : List Outcome) (entries : List Entry) (calls : List Call) (fault : CallFault) : Type 0 where
-  pub missing : List Outcome
-  pub some : 0 < length missing
-  pub met : missing ++ outcomes_of entries ≡ goal
-  pub cause : HasCause fault entries calls
+use Rattle.sb_crew.specs.Outcomes.{Outcome, outcomes_of, bytes_read, flush_of, Stops, Does}
+use Rattle.sb_session.specs.Goals.{refusal, parts_wanted, reads_of, writes_of, goal_of, body_of}
 
 -- all parts were read into the front of a buffer, or a call failed before
-abbrev pub RangeEnds : List Part → ℕ → List ℕ → List Entry → List Call → Result Unit CallFault → Type 0
-RangeEnds parts count room entries calls (Ok done) =
+abbrev pub RangeReads : List Part → ℕ → List ℕ → Result Unit CallFault → List Entry → List Call → Type 0
+RangeReads parts count room (Ok done) entries calls =
     (outcomes_of entries ≡ reads_of parts) × (bytes_read entries ≡ take count room)
-RangeEnds parts count room entries calls (Err fault) = Stops (reads_of parts) entries calls fault
+RangeReads parts count room (Err fault) entries calls = Stops (reads_of parts) entries calls fault
 
 -- what reading parts did
-pub record ReadsRange (did : List Entry → List Call → Type 0) (parts : List Part) (count : ℕ)
-    (room : List ℕ) (result : Result Unit CallFault) : Type 0 where
-  pub entries : List Entry
-  pub calls : List Call
-  pub done : did entries calls
-  pub ends : RangeEnds parts count room entries calls result
-  pub asks : AsksOnly parts entries
+abbrev pub ReadsRange : (List Entry → List Call → Type 0) → List Part → ℕ → List ℕ → Result Unit CallFault → Type 0
+ReadsRange did parts count room result = Does did parts (RangeReads parts count room result)
 
--- the error number of a fault: EIO or ENOMEM
+-- all parts were written from a payload, or a call failed before
+abbrev pub RangeWrites : List Part → List ℕ → Result Unit CallFault → List Entry → List Call → Type 0
+RangeWrites parts payload (Ok done) entries calls = outcomes_of entries ≡ writes_of parts payload
+RangeWrites parts payload (Err fault) entries calls = Stops (writes_of parts payload) entries calls fault
+
+-- what writing parts did
+abbrev pub WritesRange : (List Entry → List Call → Type 0) → List Part → List ℕ → Result Unit CallFault → Type 0
+WritesRange did parts payload result = Does did parts (RangeWrites parts payload result)
+
+-- the error number of a fault
 abbrev pub error_of : CallFault → ℕ
-error_of (StoreFault status) = 5
-error_of Memory = 12
+error_of (StoreFault status) = EIO
+error_of Memory = ENOMEM
 
--- the goal was met: error 0, and the bytes that were read
-pub record Completes (goal : List Outcome) (entries : List Entry) (error : ℕ) (body : List ℕ) : Type 0 where
+-- the goal was met: error 0, and these bytes
+pub record Completes (goal : List Outcome) (bytes : List ℕ) (entries : List Entry) (error : ℕ)
+    (body : List ℕ) : Type 0 where
   pub met : outcomes_of entries ≡ goal
   pub no_error : error ≡ 0
-  pub bytes : body ≡ bytes_read entries
+  pub body_is : body ≡ bytes
 
 -- it wasn't, for this fault: its error number, and no bytes
 pub record Fails (goal : List Outcome) (entries : List Entry) (calls : List Call) (error : ℕ)
@@ -51,15 +50,46 @@ pub record Fails (goal : List Outcome) (entries : List Entry) (calls : List Call
   pub number : error ≡ error_of fault
   pub no_bytes : body ≡ []
 
--- error and bytes of the reply to a request with this goal
-abbrev pub IsAnswer : List Outcome → List Entry → List Call → ℕ → List ℕ → Type 0
-IsAnswer goal entries calls error body = Completes goal entries error body ⊎ Fails goal entries calls error body
+-- the goal was met or it wasn't
+abbrev pub IsAnswer : List Outcome → List ℕ → List Entry → List Call → ℕ → List ℕ → Type 0
+IsAnswer goal bytes entries calls error body =
+    Completes goal bytes entries error body ⊎ Fails goal entries calls error body
+
+-- what a READ of parts did, and the reply to it
+abbrev pub ReadAnswers : (List Entry → List Call → Type 0) → List Part → ℕ → List ℕ → Type 0
+ReadAnswers did parts error body =
+    Does did parts (λ entries calls. IsAnswer (reads_of parts) (bytes_read entries) entries calls error body)
+
+-- what a WRITE to parts did, and the error of its reply
+abbrev pub WriteAnswers : (List Entry → List Call → Type 0) → List Part → List ℕ → ℕ → Type 0
+WriteAnswers did parts payload error =
+    Does did parts (λ entries calls. IsAnswer (writes_of parts payload) [] entries calls error [])
+
+-- what a FLUSH did, and the error of its reply
+abbrev pub FlushAnswers : (List Entry → List Call → Type 0) → ℕ → Type 0
+FlushAnswers did error =
+    Does did [] (λ entries calls. (mark : ℕ) × IsAnswer (flush_of mark) [] entries calls error [])
+
+-- a request was refused by this error, and nothing was done
+pub record IsRefusal (code : ℕ) (entries : List Entry) (calls : List Call) (error : ℕ) (body : List ℕ) : Type 0 where
+  pub no_entries : entries ≡ []
+  pub no_calls : calls ≡ []
+  pub number : error ≡ code
+  pub no_bytes : body ≡ []
+
+-- error and bytes of the reply to a request that isn't DISC, by how it is refused
+abbrev pub AnswersBy : Option ℕ → Geometry → Request → ℕ → List ℕ → List Entry → List Call → Type 0
+AnswersBy (Some code) geometry r error body entries calls = IsRefusal code entries calls error body
+AnswersBy None geometry r error body entries calls =
+    (mark : ℕ) × IsAnswer (goal_of geometry r mark) (body_of r.wanted entries) entries calls error body
+
+-- the blocks that it may ask the store for
+abbrev pub parts_asked : Option ℕ → Geometry → Request → List Part
+parts_asked (Some code) geometry r = []
+parts_asked None geometry r = parts_wanted geometry r.wanted
 
 -- what doing a request did, and the reply to it
-pub record Answers (did : List Entry → List Call → Type 0) (geometry : Geometry) (wanted : Wanted)
-    (error : ℕ) (body : List ℕ) : Type 0 where
-  pub entries : List Entry
-  pub calls : List Call
-  pub done : did entries calls
-  pub answer : IsAnswer (goal_of geometry wanted) entries calls error body
-  pub asks : AsksOnly (parts_wanted geometry wanted) entries
+abbrev pub Answers : (List Entry → List Call → Type 0) → Geometry → Request → ℕ → List ℕ → Type 0
+Answers did geometry r error body =
+    Does did (parts_asked (refusal geometry r.wanted) geometry r)
+    (AnswersBy (refusal geometry r.wanted) geometry r error body)

@@ -1,32 +1,58 @@
--- Which requests are served, and what they want done.
-use Rattle.std.specs.Prelude.{◌+◌, ◌*◌, ◌&&◌, nat_eq, nat_le, Bool, List, [], ◌∷◌, ◌++◌}
+-- What requests want done, and which are refused.
+use Rattle.std.specs.Prelude.{ℕ, ◌+◌, ◌*◌, nat_eq, nat_lt, Bool, if◌then◌else◌, List, [], ◌∷◌, ◌++◌, take, drop, Option, Some, None}
 use Rattle.sb_base.specs.declared.geometry.Geometry.{Geometry}
 use Rattle.sb_base.specs.declared.part.Part.{Part}
 use Rattle.sb_base.specs.Ranges.{parts_of}
+use Rattle.sb_base.specs.declared.entry.Entry.{Entry}
 use Rattle.sb_nbd.specs.declared.wanted.Wanted.{Wanted}
-use Rattle.sb_nbd.specs.declared.wanted.TheConstants.{READ, DISC}
+use Rattle.sb_nbd.specs.declared.wanted.TheConstants.{READ, WRITE, DISC, FLUSH}
 use Rattle.sb_nbd.specs.declared.request.TheConstants.{MAX_PAYLOAD}
-use Rattle.sb_crew.specs.Outcomes.{Outcome, ReadDone}
-
--- a READ without flags, of at most 32 MiB, of bytes that the disk has
-abbrev pub is_served : Geometry → Wanted → Bool
-is_served geometry w =
-    nat_eq w.kind READ && nat_eq w.flags 0 && nat_le w.length MAX_PAYLOAD && nat_le (w.offset + w.length)
-    (geometry.block_size * geometry.blocks)
+use Rattle.sb_nbd.specs.declared.reply.TheConstants.{EINVAL, ENOSPC}
+use Rattle.sb_nbd.specs.Requests.{Request}
+use Rattle.sb_crew.specs.Outcomes.{Outcome, ReadDone, WriteDone, flush_of, bytes_read}
 
 -- DISC, whatever its flags
 abbrev pub is_disc : Wanted → Bool
 is_disc w = nat_eq w.kind DISC
 
--- the parts of the disk that a request reads
+-- a range passes the end of a disk
+abbrev pub passes_end : Geometry → Wanted → Bool
+passes_end geometry w = nat_lt (geometry.block_size * geometry.blocks) (w.offset + w.length)
+
+-- the error by which a request is refused, if it is: a type that isn't READ, WRITE, DISC or FLUSH, a flag, a length,
+-- a range
+abbrev pub refusal : Geometry → Wanted → Option ℕ
+refusal geometry w =
+    if nat_lt FLUSH w.kind then Some EINVAL
+    else if nat_lt 0 w.flags then Some EINVAL
+    else if nat_eq w.kind READ then (if nat_lt MAX_PAYLOAD w.length then Some EINVAL else if passes_end
+    geometry w then Some EINVAL else None)
+    else if nat_eq w.kind WRITE then (if passes_end geometry w then Some ENOSPC else None)
+    else None
+
+-- the parts of the disk that a READ or a WRITE is about
 abbrev pub parts_wanted : Geometry → Wanted → List Part
-parts_wanted geometry w = parts_of geometry.block_size w.offset (w.offset + w.length)
+parts_wanted geometry w = if nat_lt w.kind DISC then parts_of geometry.block_size w.offset
+    (w.offset + w.length) else []
 
 -- the reads of parts, the newest first
 abbrev pub reads_of : List Part → List Outcome
 reads_of [] = []
 reads_of (part ∷ parts) = reads_of parts ++ ReadDone part ∷ []
 
--- what a request wants done, the newest first
-abbrev pub goal_of : Geometry → Wanted → List Outcome
-goal_of geometry w = reads_of (parts_wanted geometry w)
+-- the writes of parts, the newest first, each with its bytes from a payload
+abbrev pub writes_of : List Part → List ℕ → List Outcome
+writes_of [] payload = []
+writes_of (part ∷ parts) payload = writes_of parts (drop part.length payload) ++ WriteDone part
+    (take part.length payload) ∷ []
+
+-- what a request that isn't refused wants done, the newest first; the mark is that of its flush, if it has one
+abbrev pub goal_of : Geometry → Request → ℕ → List Outcome
+goal_of geometry r mark =
+    if nat_eq r.wanted.kind READ then reads_of (parts_wanted geometry r.wanted)
+    else if nat_eq r.wanted.kind WRITE then writes_of (parts_wanted geometry r.wanted) r.payload
+    else flush_of mark
+
+-- the bytes of a reply without error: those that a READ read, else none
+abbrev pub body_of : Wanted → List Entry → List ℕ
+body_of w entries = if nat_eq w.kind READ then bytes_read entries else []

@@ -1,8 +1,7 @@
--- The whole of an input behind the handshake: the requests that are served, in order, and why they end.
-use Rattle.std.specs.Prelude.{ℕ, ◌≡◌, ◌≢◌, ◌<◌, ◌^◌, ◌⊎◌, true, false, List, [], ◌∷◌, ◌++◌, length}
+-- The whole of an input behind the handshake: its requests, in order, and why they end.
+use Rattle.std.specs.Prelude.{ℕ, ◌≡◌, ◌≢◌, ◌<◌, ◌^◌, true, false, List, [], ◌∷◌, ◌++◌, length}
 use Rattle.std.specs.Int.{w32, to_be_bytes}
 use Rattle.std.specs.List.{AllByRecursion}
-use Rattle.sb_base.specs.declared.geometry.Geometry.{Geometry}
 use Rattle.sb_nbd.specs.declared.wanted.Wanted.{Wanted}
 use Rattle.sb_nbd.specs.declared.wanted.TheConstants.{WRITE}
 use Rattle.sb_nbd.specs.declared.request.TheConstants.{REQUEST_MAGIC, MAX_PAYLOAD}
@@ -12,22 +11,16 @@ use Rattle.sb_nbd.specs.Requests.{magic_bytes, fields_bytes, FitsFields, Request
 use Rattle.sb_nbd.specs.RequestReading.{IsCutRequest}
 use Rattle.sb_session.specs.declared.end.SessionEnd.{SessionEnd}
 use Rattle.sb_session.specs.declared.end.SessionEnd.TheVariants.{Disconnected, Ended, Refused}
-use Rattle.sb_session.specs.Goals.{is_served, is_disc}
+use Rattle.sb_session.specs.Goals.{is_disc}
 
 -- the bytes of requests, the oldest first
 abbrev pub bytes_of : List Request → List ℕ
 bytes_of [] = []
 bytes_of (r ∷ rs) = request_bytes r ++ bytes_of rs
 
--- a request that is served
-pub record IsServed (geometry : Geometry) (r : Request) : Type 0 where
+-- a request that isn't DISC
+pub record GoesOn (r : Request) : Type 0 where
   pub request : IsRequest r
-  pub served : is_served geometry r.wanted ≡ true
-
--- a request that is neither served nor DISC
-pub record IsUnserved (geometry : Geometry) (r : Request) : Type 0 where
-  pub request : IsRequest r
-  pub unserved : is_served geometry r.wanted ≡ false
   pub goes_on : is_disc r.wanted ≡ false
 
 -- a DISC
@@ -44,27 +37,22 @@ IsMalformed bytes (nbd.TooBig size) = (w : Wanted) × (after : List ℕ) × Fits
     × (w.length ≡ size) × (MAX_PAYLOAD < size) × (bytes ≡ magic_bytes ++ (fields_bytes w ++ after))
 IsMalformed bytes end = ⊥
 
--- a request that isn't served stands first, or nothing that is one
-abbrev pub IsRefused : Geometry → List ℕ → Type 0
-IsRefused geometry bytes =
-    ((r : Request) × (after : List ℕ) × IsUnserved geometry r × (bytes ≡ request_bytes r ++ after))
-    ⊎ ((end : NbdEnd) × IsMalformed bytes end)
-
--- all bytes behind the requests that were served end the session so. After a fault of a stream, and after the last request
+-- all bytes behind the requests that were answered end the session so. After a fault of a stream, and after the last
+-- request
 -- that a session may answer, they may be any.
-abbrev pub EndsInput : Geometry → List ℕ → SessionEnd → Type 0
-EndsInput geometry bytes Disconnected = (r : Request) × (after : List ℕ) × IsDisc r
+abbrev pub EndsInput : List ℕ → SessionEnd → Type 0
+EndsInput bytes Disconnected = (r : Request) × (after : List ℕ) × IsDisc r
     × (bytes ≡ request_bytes r ++ after)
-EndsInput geometry bytes Ended = bytes ≡ []
-EndsInput geometry bytes Refused = IsRefused geometry bytes
-EndsInput geometry bytes end = Unit {0}
+EndsInput bytes Ended = bytes ≡ []
+EndsInput bytes Refused = (reading : NbdEnd) × IsMalformed bytes reading
+EndsInput bytes end = Unit {0}
 
 -- an input has these requests, the oldest first, and ends so
-pub record IsInput (geometry : Geometry) (bytes : List ℕ) (requests : List Request) (end : SessionEnd) : Type 0 where
+pub record IsInput (bytes : List ℕ) (requests : List Request) (end : SessionEnd) : Type 0 where
   pub tail : List ℕ
   pub whole : bytes ≡ bytes_of requests ++ tail
-  pub served : AllByRecursion (IsServed geometry) requests
-  pub ends : EndsInput geometry tail end
+  pub going_on : AllByRecursion GoesOn requests
+  pub ends : EndsInput tail end
 
 -- an end that the input alone decides
 abbrev pub IsByInput : SessionEnd → Type 0

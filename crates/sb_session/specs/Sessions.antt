@@ -27,7 +27,7 @@ pub record Served (geometry : Geometry) (transmission : ℕ)
   pub tail : List ℕ
   pub out : List ℕ
   pub taken : Takes before now (opening_bytes flags ++ (asking_bytes transcript ++ tail))
-  pub stops : StopsBy geometry now tail end
+  pub stops : StopsBy now tail end
   pub held : Holds held_before held_now (handshake_bytes geometry transmission flags ++ out)
   pub writes : WritesOut end (replying_bytes transcript) out
   -- EXPORT_NAME counts as answered
@@ -36,9 +36,9 @@ pub record Served (geometry : Geometry) (transmission : ℕ)
   pub unspent : length transcript + 1 ≡ MAX_ANSWERS → (end ≡ Spent) ⊎ (end ≡ WriteFault)
   -- where what is left is told, these are all requests up to what ends the session
   pub input : (rest : List ℕ) → now ≡ Some rest → (bytes : List ℕ)
-      × (before ≡ Some (opening_bytes flags ++ bytes)) × IsInput geometry bytes (requests_of transcript) end
+      × (before ≡ Some (opening_bytes flags ++ bytes)) × IsInput bytes (requests_of transcript) end
 
--- what a session did: its handshake ended it and the disk wasn't called, or requests were served
+-- what a session did: its handshake ended it and the disk wasn't called, or requests were answered
 pub record SessionTold (geometry : Geometry) (transmission : ℕ)
     (before now held_before held_now : Option (List ℕ)) (did : List Entry → List Call → Type 0)
     (end : SessionEnd) : Type 0 where

@@ -1,6 +1,6 @@
 -- The requests of a session with what each did and its reply. Exchanges, entries and calls of the link are newest
 -- first.
-use Rattle.std.specs.Prelude.{ℕ, ◌≡◌, true, List, [], ◌∷◌, ◌++◌}
+use Rattle.std.specs.Prelude.{ℕ, ◌≡◌, false, List, [], ◌∷◌, ◌++◌}
 use Rattle.std.specs.List.{AllByRecursion}
 use Rattle.sb_base.specs.declared.geometry.Geometry.{Geometry}
 use Rattle.sb_base.specs.declared.entry.Entry.{Entry}
@@ -8,8 +8,8 @@ use Rattle.sb_world.specs.declared.link.Call.{Call}
 use Rattle.sb_nbd.specs.Requests.{Request, IsRequest, request_bytes}
 use Rattle.sb_nbd.specs.Replies.{reply_bytes}
 use Rattle.sb_crew.specs.Outcomes.{AsksOnly}
-use Rattle.sb_session.specs.Goals.{is_served, parts_wanted, goal_of}
-use Rattle.sb_session.specs.Answers.{IsAnswer}
+use Rattle.sb_session.specs.Goals.{is_disc, refusal}
+use Rattle.sb_session.specs.Answers.{AnswersBy, parts_asked}
 
 -- a request, its own entries and calls of the link, and the error and the bytes of its reply
 pub record Exchange : Type 0 where
@@ -19,12 +19,12 @@ pub record Exchange : Type 0 where
   pub error : ℕ
   pub body : List ℕ
 
--- a request that is served, with the reply that it had to get
+-- a request that isn't DISC, with the reply that it had to get
 pub record IsAnswered (geometry : Geometry) (x : Exchange) : Type 0 where
   pub request : IsRequest x.request
-  pub served : is_served geometry x.request.wanted ≡ true
-  pub answer : IsAnswer (goal_of geometry x.request.wanted) x.entries x.calls x.error x.body
-  pub asks : AsksOnly (parts_wanted geometry x.request.wanted) x.entries
+  pub goes_on : is_disc x.request.wanted ≡ false
+  pub answer : AnswersBy (refusal geometry x.request.wanted) geometry x.request x.error x.body x.entries x.calls
+  pub asks : AsksOnly (parts_asked (refusal geometry x.request.wanted) geometry x.request) x.entries
 
 -- the exchanges of a session
 abbrev pub IsTranscript : Geometry → List Exchange → Type 0

@@ -11,19 +11,17 @@ use Rattle.sb_session.specs.declared.end.SessionEnd.{SessionEnd}
 use Rattle.sb_session.specs.declared.end.SessionEnd.TheVariants.{Disconnected, Ended, Refused, ReadFault, WriteFault, Spent}
 use Rattle.sb_session.specs.declared.transmission.TheConstants.{MAX_ANSWERS}
 use Rattle.sb_session.specs.Transcripts.{Exchange, IsTranscript, entries_of, calls_of, asking_bytes, replying_bytes}
-use Rattle.sb_session.specs.Inputs.{IsDisc, IsUnserved}
+use Rattle.sb_session.specs.Inputs.{IsDisc}
 use Rattle.sb_session.specs.Handshakes.{end_of}
 
 -- the bytes behind the requests that were answered, of which no more were taken, end the session so
-abbrev pub StopsBy : Geometry → Option (List ℕ) → List ℕ → SessionEnd → Type 0
-StopsBy geometry now tail Disconnected = (r : Request) × IsDisc r × (tail ≡ request_bytes r)
-StopsBy geometry now tail Ended = (tail ≡ []) × IsAtEnd now
-StopsBy geometry now tail Refused =
-    ((r : Request) × IsUnserved geometry r × (tail ≡ request_bytes r))
-    ⊎ ((reading : NbdEnd) × StopsRequest now tail reading × (Refused ≡ end_of reading))
-StopsBy geometry now tail ReadFault = Unit {0}
-StopsBy geometry now tail WriteFault = tail ≡ []
-StopsBy geometry now tail Spent = tail ≡ []
+abbrev pub StopsBy : Option (List ℕ) → List ℕ → SessionEnd → Type 0
+StopsBy now tail Disconnected = (r : Request) × IsDisc r × (tail ≡ request_bytes r)
+StopsBy now tail Ended = (tail ≡ []) × IsAtEnd now
+StopsBy now tail Refused = (reading : NbdEnd) × StopsRequest now tail reading × (Refused ≡ end_of reading)
+StopsBy now tail ReadFault = Unit {0}
+StopsBy now tail WriteFault = tail ≡ []
+StopsBy now tail Spent = tail ≡ []
 
 -- all replies were written, or before a fault of the sink a front of them
 pub record WritesOut (end : SessionEnd) (replies out : List ℕ) : Type 0 where
@@ -50,7 +48,7 @@ pub record Stopped (geometry : Geometry) (before now held_before held_now : Opti
   pub done : did (entries_of transcript) (calls_of transcript)
   pub tail : List ℕ
   pub taken : Takes before now (asking_bytes transcript ++ tail)
-  pub stops : StopsBy geometry now tail end
+  pub stops : StopsBy now tail end
   pub out : List ℕ
   pub held : Holds held_before held_now out
   pub writes : WritesOut end (replying_bytes transcript) out

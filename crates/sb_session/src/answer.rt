@@ -1,15 +1,17 @@
 //! Doing what a request asks for.
 
-ghost use Rattle.std.specs.Prelude.{◌≡◌, ◌≤◌, ◌+◌, ◌*◌, length, take};
-ghost use Rattle.std.specs.Bool.{OnTrue};
+ghost use Rattle.std.specs.Prelude.{◌≡◌, ◌≤◌, ◌<◌, ◌+◌, ◌*◌, length, take, false, None};
 ghost use Rattle.sb_base.specs.Shapes.{IsSound};
 ghost use Rattle.sb_base.specs.Ranges.{IsRange, parts_of};
-ghost use Rattle.sb_session.specs.Goals.{is_served};
-ghost use Rattle.sb_session.specs.Answers.{ReadsRange, Answers, error_of};
+ghost use Rattle.sb_nbd.specs.Requests.{IsRequest};
+ghost use Rattle.sb_nbd.specs.RequestReading.{request_in};
+ghost use Rattle.sb_session.specs.Goals.{is_disc, refusal};
+ghost use Rattle.sb_session.specs.Answers.{ReadAnswers, WriteAnswers, FlushAnswers, Answers, error_of};
 
-use sb_base::{Geometry, parts};
 use sb_crew::{CallFault, Calls};
-use sb_nbd::{MAX_PAYLOAD, READ, Wanted};
+use crate::range::{read_range, write_range};
+use sb_base::Geometry;
+use sb_nbd::{EINVAL, EIO, ENOMEM, ENOSPC, FLUSH, MAX_PAYLOAD, READ, WRITE, Wanted};
 
 /// What a reply carries: an error number, 0 for none, and so many bytes of the buffer.
 #[derive(Drop, Clone, Copy)]
@@ -18,20 +20,7 @@ pub(crate) struct Answer {
     pub(crate) count: usize,
 }
 
-/// Whether a request is served: a READ without flags, of at most `MAX_PAYLOAD` bytes that the disk has.
-pub(crate) fn serves(geometry: Geometry, wanted: Wanted) -> bool
-    ensures served { result ≡ is_served geometry wanted }
-    ensures range { OnTrue result (IsRange geometry wanted.offset (wanted.offset + wanted.length)) }
-    ensures length { OnTrue result (wanted.length ≤ MAX_PAYLOAD) }
-{
-    let end = wanted.offset as u128 + wanted.length as u128;
-    wanted.kind == READ
-        && wanted.flags == 0
-        && wanted.length <= MAX_PAYLOAD
-        && end <= geometry.size() as u128
-}
-
-/// Does a request that is served, with its bytes in the front of the buffer.
+/// Does a request that isn't DISC. The bytes of a WRITE are in the front of the buffer, and those of a READ come there.
 pub(crate) fn perform<K, D: Calls<K>>(
     disk: &mut D,
     desk: &mut K,
@@ -40,19 +29,82 @@ pub(crate) fn perform<K, D: Calls<K>>(
 ) -> Answer
     requires ready { D.ready disk.old desk.old }
     requires sound { IsSound (D.geometry disk.old) }
-    requires range { IsRange (D.geometry disk.old) wanted.offset (wanted.offset + wanted.length) }
-    requires room { wanted.length ≤ length room.old }
+    requires room { MAX_PAYLOAD ≤ length room.old }
+    requires request { IsRequest (request_in wanted room.old) }
+    requires disc { is_disc wanted ≡ false }
     ensures ready { D.ready disk.new desk.new }
-    ensures told { Answers (D.did disk.old desk.old disk.new desk.new)
-        (D.geometry disk.old) wanted result.error (take result.count room.new) }
+    ensures told { Answers (D.did disk.old desk.old disk.new desk.new) (D.geometry disk.old)
+        (request_in wanted room.old) result.error (take result.count room.new) }
     ensures count { result.count ≤ length room.new }
     ensures geometry { D.geometry disk.new ≡ D.geometry disk.old }
     ensures length { length room.new ≡ length room.old }
 {
-    match read_range(disk, desk, wanted.offset, wanted.length, room) {
+    match refused(disk.geometry(), wanted) {
+        Some(error) => Answer { error, count: 0 },
+        None => {
+            if wanted.kind == READ {
+                answer_read(disk, desk, wanted.offset, wanted.length, room)
+            } else if wanted.kind == WRITE {
+                let payload = &room[..wanted.length as usize];
+                let error = answer_write(disk, desk, wanted.offset, payload);
+                Answer { error, count: 0 }
+            } else {
+                let error = answer_flush(disk, desk);
+                Answer { error, count: 0 }
+            }
+        }
+    }
+}
+
+/// The error by which a request is refused. Ranges are compared as whole numbers.
+fn refused(geometry: Geometry, wanted: Wanted) -> Option<u32>
+    ensures code { result ≡ refusal geometry wanted }
+    ensures range { result ≡ None → wanted.kind < 2 → IsRange geometry wanted.offset (wanted.offset + wanted.length) }
+    ensures length { result ≡ None → wanted.kind ≡ READ → wanted.length ≤ MAX_PAYLOAD }
+{
+    let end = wanted.offset as u128 + wanted.length as u128;
+    let passes_end = end > geometry.size() as u128;
+    if wanted.kind > FLUSH {
+        Some(EINVAL)
+    } else if wanted.flags > 0 {
+        Some(EINVAL)
+    } else if wanted.kind == READ {
+        if wanted.length > MAX_PAYLOAD {
+            Some(EINVAL)
+        } else if passes_end {
+            Some(EINVAL)
+        } else {
+            None
+        }
+    } else if wanted.kind == WRITE {
+        if passes_end { Some(ENOSPC) } else { None }
+    } else {
+        None
+    }
+}
+
+fn answer_read<K, D: Calls<K>>(
+    disk: &mut D,
+    desk: &mut K,
+    offset: u64,
+    count: u32,
+    room: &mut [u8],
+) -> Answer
+    requires ready { D.ready disk.old desk.old }
+    requires sound { IsSound (D.geometry disk.old) }
+    requires range { IsRange (D.geometry disk.old) offset (offset + count) }
+    requires room { count ≤ length room.old }
+    ensures ready { D.ready disk.new desk.new }
+    ensures told { ReadAnswers (D.did disk.old desk.old disk.new desk.new)
+        (parts_of (D.geometry disk.old).block_size offset (offset + count)) result.error (take result.count room.new) }
+    ensures count { result.count ≤ length room.new }
+    ensures geometry { D.geometry disk.new ≡ D.geometry disk.old }
+    ensures length { length room.new ≡ length room.old }
+{
+    match read_range(disk, desk, offset, count, room) {
         Ok(()) => Answer {
             error: 0,
-            count: wanted.length as usize,
+            count: count as usize,
         },
         Err(fault) => Answer {
             error: number_of(fault),
@@ -61,42 +113,39 @@ pub(crate) fn perform<K, D: Calls<K>>(
     }
 }
 
-/// Reads a range into the front of a buffer, part by part.
-fn read_range<K, D: Calls<K>>(
-    disk: &mut D,
-    desk: &mut K,
-    offset: u64,
-    count: u32,
-    room: &mut [u8],
-) -> Result<(), CallFault>
+fn answer_write<K, D: Calls<K>>(disk: &mut D, desk: &mut K, offset: u64, payload: &[u8]) -> u32
     requires ready { D.ready disk.old desk.old }
     requires sound { IsSound (D.geometry disk.old) }
-    requires range { IsRange (D.geometry disk.old) offset (offset + count) }
-    requires room { count ≤ length room.old }
+    requires range { IsRange (D.geometry disk.old) offset (offset + length payload.now) }
     ensures ready { D.ready disk.new desk.new }
-    ensures told { ReadsRange (D.did disk.old desk.old disk.new desk.new)
-        (parts_of (D.geometry disk.old).block_size offset (offset + count)) count room.new result }
+    ensures told { WriteAnswers (D.did disk.old desk.old disk.new desk.new)
+        (parts_of (D.geometry disk.old).block_size offset (offset + length payload.now)) payload.now result }
     ensures geometry { D.geometry disk.new ≡ D.geometry disk.old }
-    ensures length { length room.new ≡ length room.old }
 {
-    let geometry = disk.geometry();
-    let mut at = 0;
-    for part in parts(&geometry, offset, count as u64) {
-        let end = at + part.length as usize;
-        match disk.read(desk, part, &mut room[at..end]) {
-            Ok(()) => at = end,
-            Err(fault) => return Err(fault),
-        }
+    match write_range(disk, desk, offset, payload) {
+        Ok(()) => 0,
+        Err(fault) => number_of(fault),
     }
-    Ok(())
 }
 
-/// The error number of a fault: EIO, or ENOMEM.
+fn answer_flush<K, D: Calls<K>>(disk: &mut D, desk: &mut K) -> u32
+    requires { D.ready disk.old desk.old }
+    ensures ready { D.ready disk.new desk.new }
+    ensures told { FlushAnswers (D.did disk.old desk.old disk.new desk.new) result }
+    ensures geometry { D.geometry disk.new ≡ D.geometry disk.old }
+{
+    match disk.flush(desk) {
+        Ok(()) => 0,
+        Err(fault) => number_of(fault),
+    }
+}
+
+/// The error number of a fault.
 fn number_of(fault: CallFault) -> u32
     ensures { result ≡ error_of fault }
 {
     match fault {
-        CallFault::StoreFault { status: _ } => 5,
-        CallFault::Memory => 12,
+        CallFault::StoreFault { status: _ } => EIO,
+        CallFault::Memory => ENOMEM,
     }
 }

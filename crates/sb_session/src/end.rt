@@ -7,7 +7,7 @@ pub enum SessionEnd {
     Disconnected,
     /// The input ended between two messages.
     Ended,
-    /// The input ended inside a message, or a message isn't one that is served.
+    /// The input ended inside a message, or what came is no message, or an option that isn't served.
     Refused,
     /// The source has failed.
     ReadFault,

@@ -44,6 +44,25 @@ impl Calls<()> for Bytes {
             }
         }
     }
+
+    fn write(&mut self, _desk: &mut (), part: Part, bytes: &[u8]) -> Result<(), CallFault> {
+        match self.fault.take() {
+            Some(fault) => Err(fault),
+            None => {
+                let block_size = self.geometry.block_size as usize;
+                let at = block_size * part.block as usize + part.offset as usize;
+                self.kept[at..at + part.length as usize].copy_from_slice(bytes);
+                Ok(())
+            }
+        }
+    }
+
+    fn flush(&mut self, _desk: &mut ()) -> Result<(), CallFault> {
+        match self.fault.take() {
+            Some(fault) => Err(fault),
+            None => Ok(()),
+        }
+    }
 }
 
 /// Bytes that come in pieces. The source fails in place of the end where that is wanted.
@@ -300,6 +319,98 @@ fn memory_that_ran_out_is_another_error(rt: HostRuntime) -> Result<(), Fail> {
     Ok(())
 }
 
+/// Whether a session of these requests writes these replies behind the handshake, and is disconnected.
+fn is_answered(
+    alloc: Global,
+    request: &[u8],
+    reply: &[u8],
+    room: &mut [u8],
+) -> Result<bool, AllocError>
+    requires { MAX_PAYLOAD ≤ length room.old }
+    ensures { length room.new ≡ length room.old }
+{
+    let mut source = source_of(alloc, &[OPENING, request, DISCONNECT], 4096)?;
+    let mut sink = sink_for(alloc, 9);
+    let end = run(alloc, None, &mut source, &mut sink, room)?;
+    let wanted = joined(alloc, &[HANDSHAKE, reply])?;
+    Ok(end == Some(SessionEnd::Disconnected) && sink.bytes == wanted)
+}
+
+#[test]
+fn a_read_past_the_end_is_invalid(rt: HostRuntime) -> Result<(), Fail> {
+    let mut room = vec![in rt.alloc(); 0; 33_554_432]?;
+    let request =
+        b"\x25\x60\x95\x13\x00\x00\x00\x00\x00\x00\x00\x00\x00\x00\x00\x02\x00\x00\x00\x00\x00\x00\xff\xff\x00\x00\x00\x02";
+    let reply = b"\x67\x44\x66\x98\x00\x00\x00\x16\x00\x00\x00\x00\x00\x00\x00\x02";
+    let answered = is_answered(
+        rt.alloc(),
+        request.as_slice(),
+        reply.as_slice(),
+        room.as_mut_slice(),
+    )?;
+    assert!(rt; answered);
+    Ok(())
+}
+
+#[test]
+fn a_write_past_the_end_has_no_space(rt: HostRuntime) -> Result<(), Fail> {
+    let mut room = vec![in rt.alloc(); 0; 33_554_432]?;
+    let request =
+        b"\x25\x60\x95\x13\x00\x00\x00\x01\x00\x00\x00\x00\x00\x00\x00\x03\x00\x00\x00\x00\x00\x00\xff\xff\x00\x00\x00\x02AB";
+    let reply = b"\x67\x44\x66\x98\x00\x00\x00\x1c\x00\x00\x00\x00\x00\x00\x00\x03";
+    let answered = is_answered(
+        rt.alloc(),
+        request.as_slice(),
+        reply.as_slice(),
+        room.as_mut_slice(),
+    )?;
+    assert!(rt; answered);
+    Ok(())
+}
+
+#[test]
+fn a_trim_is_invalid(rt: HostRuntime) -> Result<(), Fail> {
+    let mut room = vec![in rt.alloc(); 0; 33_554_432]?;
+    let request =
+        b"\x25\x60\x95\x13\x00\x00\x00\x04\x00\x00\x00\x00\x00\x00\x00\x04\x00\x00\x00\x00\x00\x00\x00\x00\x00\x00\x00\x02";
+    let reply = b"\x67\x44\x66\x98\x00\x00\x00\x16\x00\x00\x00\x00\x00\x00\x00\x04";
+    let answered = is_answered(
+        rt.alloc(),
+        request.as_slice(),
+        reply.as_slice(),
+        room.as_mut_slice(),
+    )?;
+    assert!(rt; answered);
+    Ok(())
+}
+
+#[test]
+fn what_was_written_is_read_after_a_flush(rt: HostRuntime) -> Result<(), Fail> {
+    let mut room = vec![in rt.alloc(); 0; 33_554_432]?;
+    let write =
+        b"\x25\x60\x95\x13\x00\x00\x00\x01\x00\x00\x00\x00\x00\x00\x00\x01\x00\x00\x00\x00\x00\x00\x00\x00\x00\x00\x10\x00";
+    let flush_and_read =
+        b"\x25\x60\x95\x13\x00\x00\x00\x03\x00\x00\x00\x00\x00\x00\x00\x02\x00\x00\x00\x00\x00\x00\x00\x00\x00\x00\x00\x00\x25\x60\x95\x13\x00\x00\x00\x00\x00\x00\x00\x00\x00\x00\x00\x03\x00\x00\x00\x00\x00\x00\x0f\xff\x00\x00\x00\x02";
+    let replies =
+        b"\x67\x44\x66\x98\x00\x00\x00\x00\x00\x00\x00\x00\x00\x00\x00\x01\x67\x44\x66\x98\x00\x00\x00\x00\x00\x00\x00\x00\x00\x00\x00\x02\x67\x44\x66\x98\x00\x00\x00\x00\x00\x00\x00\x00\x00\x00\x00\x03\x41\x00";
+    let request = joined(
+        rt.alloc(),
+        &[
+            write.as_slice(),
+            [65; 4096].as_slice(),
+            flush_and_read.as_slice(),
+        ],
+    )?;
+    let answered = is_answered(
+        rt.alloc(),
+        request.as_slice(),
+        replies.as_slice(),
+        room.as_mut_slice(),
+    )?;
+    assert!(rt; answered);
+    Ok(())
+}
+
 /// Whether a session of these bytes is refused, with so much written.
 fn is_refused(
     alloc: Global,
@@ -314,51 +425,6 @@ fn is_refused(
     let mut sink = sink_for(alloc, 9);
     let end = run(alloc, None, &mut source, &mut sink, room)?;
     Ok(end == Some(SessionEnd::Refused) && sink.bytes.as_slice() == written)
-}
-
-#[test]
-fn a_read_past_the_end_is_refused(rt: HostRuntime) -> Result<(), Fail> {
-    let mut room = vec![in rt.alloc(); 0; 33_554_432]?;
-    let bytes =
-        b"\x25\x60\x95\x13\x00\x00\x00\x00\x00\x00\x00\x00\x00\x00\x00\x02\x00\x00\x00\x00\x00\x00\xff\xff\x00\x00\x00\x02";
-    let refused = is_refused(
-        rt.alloc(),
-        &[OPENING, bytes.as_slice()],
-        HANDSHAKE,
-        room.as_mut_slice(),
-    )?;
-    assert!(rt; refused);
-    Ok(())
-}
-
-#[test]
-fn a_read_with_a_flag_is_refused(rt: HostRuntime) -> Result<(), Fail> {
-    let mut room = vec![in rt.alloc(); 0; 33_554_432]?;
-    let bytes =
-        b"\x25\x60\x95\x13\x00\x01\x00\x00\x00\x00\x00\x00\x00\x00\x00\x02\x00\x00\x00\x00\x00\x00\x00\x00\x00\x00\x00\x02";
-    let refused = is_refused(
-        rt.alloc(),
-        &[OPENING, bytes.as_slice()],
-        HANDSHAKE,
-        room.as_mut_slice(),
-    )?;
-    assert!(rt; refused);
-    Ok(())
-}
-
-#[test]
-fn a_flush_is_refused(rt: HostRuntime) -> Result<(), Fail> {
-    let mut room = vec![in rt.alloc(); 0; 33_554_432]?;
-    let bytes =
-        b"\x25\x60\x95\x13\x00\x00\x00\x03\x00\x00\x00\x00\x00\x00\x00\x02\x00\x00\x00\x00\x00\x00\x00\x00\x00\x00\x00\x00";
-    let refused = is_refused(
-        rt.alloc(),
-        &[OPENING, bytes.as_slice()],
-        HANDSHAKE,
-        room.as_mut_slice(),
-    )?;
-    assert!(rt; refused);
-    Ok(())
 }
 
 #[test]

@@ -6,9 +6,9 @@ ghost use Rattle.sb_world.specs.Told.{CountsFaults};
 ghost use Rattle.sb_session.specs.Handshakes.{end_of};
 ghost use Rattle.sb_session.specs.Turns.{TurnEnds, TurnsEnd};
 
-use crate::answer::{perform, serves};
-use crate::end::SessionEnd;
+use crate::answer::perform;
 use sb_crew::Calls;
+use crate::end::SessionEnd;
 use sb_nbd::{DISC, MAX_PAYLOAD, NbdEnd, read_request, write_reply};
 use sb_world::{Sink, Source};
 
@@ -71,11 +71,8 @@ fn turn<K, D: Calls<K>, R: Source, S: Sink>(
     if wanted.kind == DISC {
         return Err(SessionEnd::Disconnected);
     }
-    if !serves(disk.geometry(), wanted) {
-        return Err(SessionEnd::Refused);
-    }
-    let reply = perform(disk, desk, wanted, room);
-    match write_reply(sink, reply.error, wanted.cookie, &room[..reply.count]) {
+    let answer = perform(disk, desk, wanted, room);
+    match write_reply(sink, answer.error, wanted.cookie, &room[..answer.count]) {
         Ok(()) => Ok(()),
         Err(_) => Err(SessionEnd::WriteFault),
     }

@@ -1,9 +1,9 @@
-use Rattle.sb_session.proofs.Reading.{range_answers, range_fails}
+use Rattle.std.proofs.Common.{rules}
+use Rattle.sb_nbd.specs.RequestReading.{request_in}
+use Rattle.sb_session.proofs.Reading.{refused_answers}
 use Rattle.sb_session.proofs.answer.perform.Goals as goal
 
-pub returns-in-Ok-clause-told : goal.returns-in-Ok-clause-told
-returns-in-Ok-clause-told g c = range_answers _ _ c.args.wanted c.args.wanted.length _ c.in-Ok.ensures.told
-
-pub returns-in-Err-clause-told : goal.returns-in-Err-clause-told
-returns-in-Err-clause-told g c = range_fails _ _ c.args.wanted c.args.wanted.length _ _ c.in-Err.fault
-    c.number_of.ensures c.in-Err.ensures.told
+pub returns-in-Some-clause-told : goal.returns-in-Some-clause-told
+returns-in-Some-clause-told g c =
+    refused_answers _ _ (request_in c.args.wanted c.args.room.now) c.in-Some.error (search rules)
+    (g.D.Calls.did_nothing c.args.disk.now c.args.desk.now)

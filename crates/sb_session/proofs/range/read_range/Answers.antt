@@ -4,15 +4,15 @@ use borrow.Rule.Slice.PartMut.{put_mid}
 use Rattle.sb_base.specs.declared.geometry.Geometry.{Geometry}
 use Rattle.sb_base.specs.Ranges.{parts_of}
 use Rattle.sb_session.specs.Answers.{ReadsRange}
-use Rattle.sb_session.proofs.Reading.{range_none, range_more, range_stops, part_within, length_more, length_piece}
-use Rattle.sb_session.proofs.answer.read_range.Goals as goal
+use Rattle.sb_session.proofs.Reading.{reads_none, reads_more, reads_stop, part_within, length_more, length_piece}
+use Rattle.sb_session.proofs.range.read_range.Goals as goal
 
 pub loop-part-init : goal.loop-part-init
 loop-part-init g c =
     let to = c.args.offset + c.args.count in
     record {
       ready = c.requires.ready;
-      told = range_none _ c.args.room.now (g.D.Calls.did_nothing c.args.disk.now c.args.desk.now);
+      told = reads_none _ c.args.room.now (g.D.Calls.did_nothing c.args.disk.now c.args.desk.now);
       split = c.into_iter-part-iterator.ensures.into_iter_gives ∙ c.parts-part-items.ensures.parts
           ∙ ap (λ (geometry : Geometry). parts_of geometry.block_size c.args.offset to) c.geometry-geometry.ensures;
       at = refl;
@@ -37,7 +37,7 @@ loop-part-preserved g c =
     let len = more.length ∙ length_piece c.loop-part.at part.length c.loop-part.room within in
     record {
       ready = more.ready;
-      told = range_more _ _ _ (g.D.Calls.did_both c.args.disk.now c.args.desk.now c.loop-part.disk
+      told = reads_more _ _ _ (g.D.Calls.did_both c.args.disk.now c.args.desk.now c.loop-part.disk
           c.loop-part.desk c.read.new.self c.read.new.desk) yielded part c.loop-part.at _ c.loop-part.room
           c.read.new.out len within before.told more.did;
       split = append_assoc yielded (part ∷ []) c.next.new.self ∙ split;
@@ -54,7 +54,7 @@ returns-in-Err-clause-told g c =
     let split = ap (λ parts. yielded ++ parts) (sym c.in-Some.ensures.steps) ∙ before.split in
     let room = put_mid c.loop-part.at (c.loop-part.at + c.in-Some.part.length - c.loop-part.at)
     c.loop-part.room c.read.new.out in
-    let stops = range_stops _ _ did (g.D.Calls.did_both c.args.disk.now c.args.desk.now c.loop-part.disk
+    let stops = reads_stop _ _ did (g.D.Calls.did_both c.args.disk.now c.args.desk.now c.loop-part.disk
     c.loop-part.desk c.read.new.self c.read.new.desk) yielded c.next.new.self c.in-Some.part
     c.loop-part.at c.args.count c.loop-part.room room c.read.new.out c.in-Err.fault before.told
     c.in-Err.ensures.did in

@@ -1,0 +1,17 @@
+use Rattle.std.proofs.Common.{◌≡◌, ◌+◌, ◌++◌, length, Ok, sum_by}
+use Rattle.sb_base.specs.declared.part.Part.{Part}
+use Rattle.sb_base.specs.Ranges.{parts_of}
+use Rattle.sb_session.specs.Answers.{ReadsRange}
+use Rattle.sb_session.proofs.range.read_range.Given as goal
+
+-- the parts so far were read
+abbrev pub invariant-loop-part : goal.invariant-loop-part
+invariant-loop-part g l = record {
+  ready : g.D.Calls.ready l.disk l.desk;
+  told : ReadsRange (g.D.Calls.did l.fn.disk l.fn.desk l.disk l.desk) l.yielded l.at l.room (Ok tt);
+  split : l.yielded ++ l.part-iterator ≡ parts_of (g.D.Calls.geometry l.fn.disk).block_size l.fn.offset
+      (l.fn.offset + l.fn.count);
+  at : l.at ≡ sum_by (λ (part : Part). part.length) l.yielded;
+  geometry : g.D.Calls.geometry l.disk ≡ g.D.Calls.geometry l.fn.disk;
+  length : length l.room ≡ length l.fn.room;
+}

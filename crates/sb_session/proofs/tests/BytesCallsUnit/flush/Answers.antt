@@ -1,0 +1,25 @@
+use Rattle.std.proofs.Common.{refl, [], ◌∷◌, None, false, arith}
+use Rattle.sb_base.specs.declared.entry.EntryKind.TheVariants as kind
+use Rattle.sb_base.specs.declared.entry.Shown.TheVariants as shown
+use Rattle.sb_world.specs.declared.link.Call.TheVariants as call
+use Rattle.sb_world.specs.declared.link.GetReply.TheVariants as get
+use Rattle.sb_crew.specs.Outcomes.{link_fault, flush_of}
+use Rattle.sb_session.proofs.tests.BytesCallsUnit.flush.Goals as goal
+
+pub returns-in-None-clause-did : goal.returns-in-None-clause-did
+returns-in-None-clause-did c = record {
+  entries = record { pass = 1; reading = 0; kind = kind.FlushDone 0 } ∷ record { pass = 1; reading = 0; kind = kind.FlushBegin 0 } ∷ [];
+  calls = [];
+  done = tt;
+  ends = (0, refl);
+  asks = record { asked = tt };
+}
+
+pub returns-in-Some-clause-did : goal.returns-in-Some-clause-did
+returns-in-Some-clause-did c = record {
+  ends = (0, record { missing = flush_of 0; some = omega arith; met = refl; cause = (tt, refl) });
+  entries = record { pass = 1; reading = 0; kind = kind.GetEnd 0 shown.Failed None false } ∷ [];
+  calls = call.Get [] None (get.Fault (link_fault c.in-Some.fault)) ∷ [];
+  done = tt;
+  asks = record { asked = tt };
+}

@@ -1,0 +1,25 @@
+use Rattle.std.proofs.Common.{refl, [], ◌∷◌, None, false}
+use Rattle.sb_base.specs.declared.entry.EntryKind.TheVariants as kind
+use Rattle.sb_base.specs.declared.entry.Shown.TheVariants as shown
+use Rattle.sb_world.specs.declared.link.Call.TheVariants as call
+use Rattle.sb_world.specs.declared.link.GetReply.TheVariants as get
+use Rattle.sb_crew.specs.Outcomes.{link_fault}
+use Rattle.sb_session.proofs.tests.BytesCallsUnit.write.Goals as goal
+
+pub returns-in-None-clause-did : goal.returns-in-None-clause-did
+returns-in-None-clause-did c = record {
+  entries = record { pass = 1; reading = 0; kind = kind.Write c.args.part c.args.bytes.now } ∷ [];
+  calls = [];
+  done = tt;
+  ends = refl;
+  asks = record { asked = tt };
+}
+
+pub returns-in-Some-clause-did : goal.returns-in-Some-clause-did
+returns-in-Some-clause-did c = record {
+  ends = (refl, (tt, refl));
+  entries = record { pass = 1; reading = 0; kind = kind.GetEnd c.args.part.block shown.Failed None false } ∷ [];
+  calls = call.Get [] None (get.Fault (link_fault c.in-Some.fault)) ∷ [];
+  done = tt;
+  asks = record { asked = tt };
+}

@@ -1,0 +1,66 @@
+//! Ranges of a disk, part by part.
+
+ghost use Rattle.std.specs.Prelude.{◌≡◌, ◌≤◌, ◌+◌, length};
+ghost use Rattle.sb_base.specs.Shapes.{IsSound};
+ghost use Rattle.sb_base.specs.Ranges.{IsRange, parts_of};
+ghost use Rattle.sb_session.specs.Answers.{ReadsRange, WritesRange};
+
+use sb_crew::{CallFault, Calls};
+use sb_base::parts;
+
+/// Reads a range into the front of a buffer.
+pub(crate) fn read_range<K, D: Calls<K>>(
+    disk: &mut D,
+    desk: &mut K,
+    offset: u64,
+    count: u32,
+    room: &mut [u8],
+) -> Result<(), CallFault>
+    requires ready { D.ready disk.old desk.old }
+    requires sound { IsSound (D.geometry disk.old) }
+    requires range { IsRange (D.geometry disk.old) offset (offset + count) }
+    requires room { count ≤ length room.old }
+    ensures ready { D.ready disk.new desk.new }
+    ensures told { ReadsRange (D.did disk.old desk.old disk.new desk.new)
+        (parts_of (D.geometry disk.old).block_size offset (offset + count)) count room.new result }
+    ensures geometry { D.geometry disk.new ≡ D.geometry disk.old }
+    ensures length { length room.new ≡ length room.old }
+{
+    let geometry = disk.geometry();
+    let mut at = 0;
+    for part in parts(&geometry, offset, count as u64) {
+        let end = at + part.length as usize;
+        match disk.read(desk, part, &mut room[at..end]) {
+            Ok(()) => at = end,
+            Err(fault) => return Err(fault),
+        }
+    }
+    Ok(())
+}
+
+/// Writes bytes to the range from a place on.
+pub(crate) fn write_range<K, D: Calls<K>>(
+    disk: &mut D,
+    desk: &mut K,
+    offset: u64,
+    payload: &[u8],
+) -> Result<(), CallFault>
+    requires ready { D.ready disk.old desk.old }
+    requires sound { IsSound (D.geometry disk.old) }
+    requires range { IsRange (D.geometry disk.old) offset (offset + length payload.now) }
+    ensures ready { D.ready disk.new desk.new }
+    ensures told { WritesRange (D.did disk.old desk.old disk.new desk.new)
+        (parts_of (D.geometry disk.old).block_size offset (offset + length payload.now)) payload.now result }
+    ensures geometry { D.geometry disk.new ≡ D.geometry disk.old }
+{
+    let geometry = disk.geometry();
+    let mut at = 0;
+    for part in parts(&geometry, offset, payload.len() as u64) {
+        let end = at + part.length as usize;
+        match disk.write(desk, part, &payload[at..end]) {
+            Ok(()) => at = end,
+            Err(fault) => return Err(fault),
+        }
+    }
+    Ok(())
+}
