@@ -13,6 +13,10 @@ def read(cookie, offset, length):
     return bytes.fromhex("25609513 0000 0000") + cookie.to_bytes(8, "big") + offset.to_bytes(8, "big") + length.to_bytes(4, "big")
 
 
+def error(number, cookie):
+    return bytes.fromhex("67446698") + number.to_bytes(4, "big") + cookie.to_bytes(8, "big")
+
+
 def reply(cookie, body):
     return bytes.fromhex("67446698 00000000") + cookie.to_bytes(8, "big") + body
 
@@ -45,7 +49,7 @@ expect("the client wants zeroes", run(SMALL, bytes(4) + EXPORT_NAME + DISC), (0,
 expect("reads", run(SMALL, OPEN + read(1, 0, 512) + read(2, 4095, 2) + read(3, 65535, 1) + read(4, 65536, 0) + DISC),
        (0, export(65536) + reply(1, bytes(512)) + reply(2, bytes(2)) + reply(3, bytes(1)) + reply(4, b""), b""))
 refused = b"s3backer: session: refused\n"
-expect("a read past the end", run(SMALL, OPEN + read(1, 65536, 1) + DISC), (7, export(65536), refused))
+expect("a read past the end", run(SMALL, OPEN + read(1, 65536, 1) + DISC), (0, export(65536) + error(22, 1), b""))
 expect("a wrong magic", run(SMALL, OPEN + bytes.fromhex("25609514") + bytes(24)), (7, export(65536), refused))
 expect("a cut request", run(SMALL, OPEN + read(1, 0, 512)[:10]), (7, export(65536), refused))
 expect("unknown flags", run(SMALL, bytes.fromhex("00000004")), (7, GREETING, refused))
