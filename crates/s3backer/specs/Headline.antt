@@ -1,5 +1,5 @@
 -- What a run of the program promises, of one list of entries and one list of calls. Lists are newest first.
-use Rattle.std.specs.Prelude.{ℕ, Bool, ◌≡◌, ◌≢◌, ◌≤◌, ◌⊎◌, ◌+◌, List, [], ◌∷◌, ◌++◌, Option, Some, None, IfSome, codes, map}
+use Rattle.std.specs.Prelude.{ℕ, Bool, ◌≡◌, ◌⊎◌, List, [], ◌∷◌, ◌++◌, Option, Some, None, IfSome, Result, Ok, Err, codes, decimal}
 use Rattle.sb_base.specs.declared.geometry.Geometry.{Geometry}
 use Rattle.sb_base.specs.declared.entry.Entry.{Entry}
 use Rattle.sb_world.specs.Told.{Gains, Rose}
@@ -10,6 +10,7 @@ use Rattle.sb_world.specs.declared.link.Call.{Call}
 use Rattle.sb_history.specs.Contents.{Start, FillBlocks}
 use Rattle.sb_history.specs.Values.{IsLegal}
 use Rattle.sb_history.specs.Visibility.{Delays, IsStaleWithin}
+use Rattle.sb_history.specs.Durability.{FlushesAreDurable, IsCrashDurable}
 use Rattle.sb_history.specs.Passes.{IsOfPass}
 use Rattle.sb_history.specs.Requests.{RequestLog}
 use Rattle.sb_history.specs.ClockTrace.{ClockTrace}
@@ -17,6 +18,9 @@ use Rattle.sb_history.specs.AccessRules.{FollowsAccessRules}
 use Rattle.sb_history.specs.CachePolicy.{FollowsCachePolicy}
 use Rattle.sb_core.specs.Represents.{nothing_found}
 use Rattle.sb_crew.specs.Names.{block_name}
+use Rattle.sb_crew.specs.declared.calls.CallFault.{CallFault}
+use Rattle.sb_crew.specs.declared.calls.CallFault.TheVariants.{StoreFault, Memory}
+use Rattle.sb_crew.specs.Outcomes.{Outcome, outcomes_of, flush_of, FlushEnds, AsksOnly}
 use Rattle.sb_crew.specs.Runs.{only_caller, sizes_of}
 use Rattle.sb_session.specs.declared.end.SessionEnd.{SessionEnd}
 use Rattle.sb_session.specs.declared.end.SessionEnd.TheVariants as end
@@ -31,19 +35,40 @@ use Rattle.s3backer.specs.declared.words.Usage.{Usage}
 abbrev pub at_once : Delays
 at_once = record { order = 0; show = 0 }
 
--- the status of a session's end, and the line that tells it
-abbrev pub session_status : SessionEnd → ℕ
-session_status end.Disconnected = 0
-session_status end.Ended = 0
-session_status other = 7
+-- the line that tells a fault of the store
+abbrev pub store_fault_line : ℕ → List ℕ
+store_fault_line status = codes "s3backer: store fault " ++ decimal status ++ 10 ∷ []
 
-abbrev pub session_line : SessionEnd → Option (List ℕ)
-session_line end.Disconnected = None
-session_line end.Ended = None
-session_line end.Refused = Some (codes "s3backer: session: refused\n")
-session_line end.ReadFault = Some (codes "s3backer: session: read fault\n")
-session_line end.WriteFault = Some (codes "s3backer: session: write fault\n")
-session_line end.Spent = Some (codes "s3backer: session: spent\n")
+-- the status of the flush after a session
+abbrev pub flush_status : Result Unit CallFault → ℕ
+flush_status (Ok done) = 0
+flush_status (Err (StoreFault status)) = 3
+flush_status (Err Memory) = 12
+
+-- the line that tells its fault
+abbrev pub flush_line : Result Unit CallFault → Option (List ℕ)
+flush_line (Ok done) = None
+flush_line (Err (StoreFault status)) = Some (store_fault_line status)
+flush_line (Err Memory) = Some (codes "s3backer: out of memory\n")
+
+-- the status of a session's end and the flush after it: that of the first fault
+abbrev pub run_status : SessionEnd → Result Unit CallFault → ℕ
+run_status end.Disconnected flushed = flush_status flushed
+run_status end.Ended flushed = flush_status flushed
+run_status other flushed = 7
+
+-- the line that tells the first fault
+abbrev pub run_line : SessionEnd → Result Unit CallFault → Option (List ℕ)
+run_line end.Disconnected flushed = flush_line flushed
+run_line end.Ended flushed = flush_line flushed
+run_line end.Refused flushed = Some (codes "s3backer: session: refused\n")
+run_line end.ReadFault flushed = Some (codes "s3backer: session: read fault\n")
+run_line end.WriteFault flushed = Some (codes "s3backer: session: write fault\n")
+run_line end.Spent flushed = Some (codes "s3backer: session: spent\n")
+
+-- the last flush began after every write, and is done
+abbrev pub IsSaved : List Entry → Type 0
+IsSaved entries = (mark : ℕ) × (earlier : List Outcome) × (outcomes_of entries ≡ flush_of mark ++ earlier)
 
 -- the error sink gained a line, or a front of it where its count rose
 pub record Complains (held held' : Option (List ℕ)) (faults faults' : ℕ) (line : List ℕ) : Type 0 where
@@ -58,8 +83,9 @@ abbrev pub ComplainsOf : Option (List ℕ) → Option (List ℕ) → Option (Lis
 ComplainsOf None held held' faults faults' = held' ≡ held
 ComplainsOf (Some line) held held' faults faults' = Complains held held' faults faults' line
 
--- a disk's history: what its tape, the link's log and the clock gained, the rules that it follows, and that each read is that
--- of a register over every store that shows the latest versions
+-- a disk's history: what its tape, the link's log and the clock gained, the rules that it follows, and, over every store
+-- that shows the latest versions, that each read is that of a register, that each flush that is done has saved what was
+-- written before it, and what a crash leaves at any moment
 pub record IsHistory (geometry : Geometry) (told told' : Option (List Entry)) (log log' : Option (List Call))
     (ticks ticks' : Option (List Tick)) (entries : List Entry) (calls : List Call) : Type 0 where
   pub of_pass : IsOfPass 1 entries
@@ -73,16 +99,24 @@ pub record IsHistory (geometry : Geometry) (told told' : Option (List Entry)) (l
   pub policy : FollowsCachePolicy geometry SETTINGS nothing_found entries
   pub legal : (start : Start) → FillBlocks geometry.block_size start
       → IsStaleWithin geometry.block_size start at_once entries → IsLegal start entries
+  pub durable : (start : Start) → FillBlocks geometry.block_size start
+      → IsStaleWithin geometry.block_size start at_once entries → FlushesAreDurable start entries
+  pub survives : (start : Start) → FillBlocks geometry.block_size start
+      → IsStaleWithin geometry.block_size start at_once entries → IsCrashDurable start entries
 
 -- over any links, clocks, sources and sinks, by what they tell and their counts of faults
 module _ {L C R S : Type 0} (log : L → Option (List Call)) (ticks : C → Option (List Tick)) (left : R → Option (List ℕ))
     (read_faults : R → ℕ) (held : S → Option (List ℕ)) (write_faults : S → ℕ) where
-  -- a session was served: its history, its course over the bytes, its end with status and line
+  -- a session was served and the disk flushed then: the history of both, the session's course over the bytes, how it and
+  -- the flush ended, and what was told of that
   pub record ServesSession (geometry : Geometry) (link link' : L) (clock clock' : C) (input input' : R)
       (output output' errors errors' : S) (told told' : Option (List Entry)) (status : ℕ) : Type 0 where
     pub entries : List Entry
     pub calls : List Call
-    pub history : IsHistory geometry told told' (log link) (log link') (ticks clock) (ticks clock') entries calls
+    pub flush_entries : List Entry
+    pub flush_calls : List Call
+    pub history : IsHistory geometry told told' (log link) (log link') (ticks clock) (ticks clock')
+        (flush_entries ++ entries) (flush_calls ++ calls)
     pub ended : SessionEnd
     pub course :
         (Unopened geometry TRANSMISSION_FLAGS (left input) (left input') (held output) (held output') ended
@@ -91,9 +125,13 @@ module _ {L C R S : Type 0} (log : L → Option (List Call)) (ticks : C → Opti
         entries calls
     pub read_cause : ended ≡ end.ReadFault → Rose (read_faults input) (read_faults input')
     pub write_cause : ended ≡ end.WriteFault → Rose (write_faults output) (write_faults output')
-    pub status_is : status ≡ session_status ended
-    pub complains : ComplainsOf (session_line ended)
+    pub flushed : Result Unit CallFault
+    pub flushes : FlushEnds flushed flush_entries flush_calls
+    pub flush_asks : AsksOnly [] flush_entries
+    pub status_is : status ≡ run_status ended flushed
+    pub complains : ComplainsOf (run_line ended flushed)
         (held errors) (held errors') (write_faults errors) (write_faults errors')
+    pub saved : status ≡ 0 → IsSaved (flush_entries ++ entries)
 
   -- want of memory came before the session: nothing was asked, read or written but the line that tells it
   pub record LacksMemory (link link' : L) (clock clock' : C) (input input' : R)

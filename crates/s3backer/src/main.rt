@@ -8,6 +8,8 @@ mod settings;
 mod tests;
 mod top;
 mod words;
+#[cfg(test)]
+mod write_tests;
 
 use crate::host::HostWorld;
 use crate::top::run;

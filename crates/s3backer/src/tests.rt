@@ -6,17 +6,18 @@ use crate::rehearsal::{Rehearsal, rehearse};
 use crate::settings::SETTINGS;
 use sb_base::{Geometry, Part, Text};
 use sb_core::Core;
-use sb_crew::{Alone, Desk};
+use sb_crew::{Alone, Calls, Desk};
 use sb_fakes::{Failing, HandClock, MemoryConn, PlainStore};
 use sb_world::{Link, NoTape};
 use std::alloc::{AllocError, Global};
 use std::test::Fail;
 
-const OPENING: &[u8] = b"\x00\x00\x00\x03IHAVEOPT\x00\x00\x00\x01\x00\x00\x00\x00";
+pub(crate) const OPENING: &[u8] = b"\x00\x00\x00\x03IHAVEOPT\x00\x00\x00\x01\x00\x00\x00\x00";
 
-const HANDSHAKE: &[u8] = b"NBDMAGICIHAVEOPT\x00\x03\x00\x00\x00\x00\x00\x01\x00\x00\x00\x05";
+pub(crate) const HANDSHAKE: &[u8] =
+    b"NBDMAGICIHAVEOPT\x00\x03\x00\x00\x00\x00\x00\x01\x00\x00\x00\x05";
 
-const DISC: &[u8] =
+pub(crate) const DISC: &[u8] =
     b"\x25\x60\x95\x13\x00\x00\x00\x02\x00\x00\x00\x00\x00\x00\x00\x00\x00\x00\x00\x00\x00\x00\x00\x00\x00\x00\x00\x00";
 
 const READ_512: &[u8] =
@@ -27,7 +28,7 @@ const EIO_1: &[u8] = b"\x67\x44\x66\x98\x00\x00\x00\x05\x00\x00\x00\x00\x00\x00\
 const OK_1: &[u8] = b"\x67\x44\x66\x98\x00\x00\x00\x00\x00\x00\x00\x00\x00\x00\x00\x01";
 
 /// The pieces, one after the other.
-fn joined(alloc: Global, pieces: &[&[u8]]) -> Result<Text, AllocError> {
+pub(crate) fn joined(alloc: Global, pieces: &[&[u8]]) -> Result<Text, AllocError> {
     let mut bytes = Vec::new(alloc);
     for piece in pieces {
         bytes.extend_from_slice(piece)?;
@@ -36,7 +37,7 @@ fn joined(alloc: Global, pieces: &[&[u8]]) -> Result<Text, AllocError> {
 }
 
 /// A session of a disk of 64k over a link, whose client sends these pieces and is read in pieces of so many bytes.
-fn session<L: Link + Drop>(
+pub(crate) fn session<L: Link + Drop>(
     alloc: Global,
     link: L,
     pieces: &[&[u8]],
@@ -60,7 +61,7 @@ fn session<L: Link + Drop>(
 }
 
 /// What a run wrote.
-fn output<L>(done: &Rehearsal<L>) -> &[u8] {
+pub(crate) fn output<L>(done: &Rehearsal<L>) -> &[u8] {
     match &done.world.last {
         Some(bench) => bench.output.bytes(),
         None => &[],
@@ -68,7 +69,7 @@ fn output<L>(done: &Rehearsal<L>) -> &[u8] {
 }
 
 /// What a run said on its error sink.
-fn errors<L>(done: &Rehearsal<L>) -> &[u8] {
+pub(crate) fn errors<L>(done: &Rehearsal<L>) -> &[u8] {
     match &done.world.last {
         Some(bench) => bench.errors.bytes(),
         None => &[],
@@ -159,7 +160,7 @@ fn a_block_of_16_mib_is_read(rt: HostRuntime) -> Result<(), Fail> {
         offset: 16_777_215,
         length: 1,
     };
-    assert!(rt; disk.read_part(&mut desk, part, &mut out).is_ok());
+    assert!(rt; disk.read(&mut desk, part, &mut out).is_ok());
     assert_eq!(rt; out, [0]);
     let (_core, _tape) = disk.finish();
     Ok(())

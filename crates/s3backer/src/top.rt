@@ -6,14 +6,15 @@ ghost use Rattle.sb_base.specs.Shapes.{IsSound};
 ghost use Rattle.sb_core.specs.Represents.{geometry_of};
 ghost use Rattle.sb_crew.specs.Desks.{HasRoom};
 ghost use Rattle.s3backer.specs.Fresh.{IsFresh};
-ghost use Rattle.s3backer.specs.Headline.{session_status, session_line, ComplainsOf, Complains, ServesSession, Serves, ServesBench, RunEnds, SaysUsage, IsUsageLine};
+ghost use Rattle.s3backer.specs.Headline.{run_status, run_line, flush_line, store_fault_line, ComplainsOf, Complains, ServesSession, Serves, ServesBench, RunEnds, SaysUsage, IsUsageLine};
 
 use crate::settings::SETTINGS;
 use crate::words::{PlanFault, Usage, plan};
+use arrayvec::ArrayString;
 use sb_base::Geometry;
 use sb_core::Core;
-use sb_crew::{Alone, Desk, DeskRefused};
-use sb_laws::unwindowed_is_legal;
+use sb_crew::{Alone, CallFault, Calls, Desk, DeskRefused};
+use sb_laws::{unwindowed_flushes, unwindowed_is_legal, unwindowed_survives_crash};
 use sb_session::{Buffer, SessionEnd, serve_alone};
 use sb_world::{Bench, Clock, Link, MakeFault, Sink, Source, Tape, World};
 use std::alloc::{AllocError, Global};
@@ -28,28 +29,58 @@ pub struct Outcome<T> {
 /// The line that tells want of memory.
 const OUT_OF_MEMORY: &[u8] = b"s3backer: out of memory\n";
 
-/// The status of a session's end.
-fn status_of(end: SessionEnd) -> u8
-    ensures { result ≡ session_status end }
+/// The status of a session's end and of the flush after it: that of the first fault.
+fn status_of(end: SessionEnd, flushed: Result<(), CallFault>) -> u8
+    ensures { result ≡ run_status end flushed }
 {
     match end {
-        SessionEnd::Disconnected | SessionEnd::Ended => 0,
+        SessionEnd::Disconnected | SessionEnd::Ended => match flushed {
+            Ok(()) => 0,
+            Err(CallFault::StoreFault { status: _ }) => 3,
+            Err(CallFault::Memory) => 12,
+        },
         SessionEnd::Refused | SessionEnd::ReadFault | SessionEnd::WriteFault | SessionEnd::Spent =>
             7,
     }
 }
 
-/// Writes the line of a session's end, if it has one.
-fn complain_of<S: Sink>(errors: &mut S, end: SessionEnd)
-    ensures { ComplainsOf (session_line end) (S.held errors.old) (S.held errors.new) (S.faults errors.old) (S.faults errors.new) }
+/// Writes the line of the first fault of a session and the flush after it, if there is one.
+fn complain_of<S: Sink>(errors: &mut S, end: SessionEnd, flushed: Result<(), CallFault>)
+    ensures { ComplainsOf (run_line end flushed) (S.held errors.old) (S.held errors.new) (S.faults errors.old) (S.faults errors.new) }
 {
     match end {
-        SessionEnd::Disconnected | SessionEnd::Ended => {}
+        SessionEnd::Disconnected | SessionEnd::Ended => complain_of_flush(errors, flushed),
         SessionEnd::Refused => complain(errors, b"s3backer: session: refused\n"),
         SessionEnd::ReadFault => complain(errors, b"s3backer: session: read fault\n"),
         SessionEnd::WriteFault => complain(errors, b"s3backer: session: write fault\n"),
         SessionEnd::Spent => complain(errors, b"s3backer: session: spent\n"),
     }
+}
+
+/// Writes the line of a flush's fault, if it has one.
+fn complain_of_flush<S: Sink>(errors: &mut S, flushed: Result<(), CallFault>)
+    ensures { ComplainsOf (flush_line flushed) (S.held errors.old) (S.held errors.new) (S.faults errors.old) (S.faults errors.new) }
+{
+    match flushed {
+        Ok(()) => {}
+        Err(CallFault::StoreFault { status }) => complain(
+            errors,
+            store_fault_line(status).as_str().as_bytes(),
+        ),
+        Err(CallFault::Memory) => complain(errors, OUT_OF_MEMORY),
+    }
+}
+
+/// The line that tells a fault of the store.
+fn store_fault_line(status: u16) -> ArrayString<28>
+    ensures { result.bytes ≡ store_fault_line status }
+{
+    let mut digits = itoa::Buffer::new();
+    let mut line = ArrayString::new();
+    line.push_str("s3backer: store fault ");
+    line.push_str(digits.format(status));
+    line.push_str("\n");
+    line
 }
 
 /// Writes a line. A fault of that changes nothing else.
@@ -72,7 +103,7 @@ fn make(alloc: Global, geometry: Geometry) -> Result<(Core, Buffer), AllocError>
     Ok((core, buffer))
 }
 
-/// Serves a session over a new disk.
+/// Serves a session over a new disk, and then flushes it.
 fn serve_disk<L: Link, C: Clock, R: Source, S: Sink, T: Tape>(
     core: Core,
     mut buffer: Buffer,
@@ -88,12 +119,15 @@ fn serve_disk<L: Link, C: Clock, R: Source, S: Sink, T: Tape>(
     ensures { ServesSession L.log C.ticks R.left R.faults S.held S.faults (geometry_of core) desk.link result.2 desk.clock result.3 input.old input.new output.old output.new errors.old errors.new (T.told tape) (T.told result.1) result.0 }
 {
     unwindowed_is_legal();
+    unwindowed_flushes();
+    unwindowed_survives_crash();
     let mut disk = Alone::new(core, tape);
     let end = serve_alone(&mut disk, &mut desk, &mut buffer, input, output);
-    complain_of(errors, end);
+    let flushed = disk.flush(&mut desk);
+    complain_of(errors, end, flushed);
     let (_core, tape) = disk.finish();
     let (link, clock) = desk.into_parts();
-    (status_of(end), tape, link, clock)
+    (status_of(end, flushed), tape, link, clock)
 }
 
 /// Serves a session with the parts of a bench.
@@ -175,9 +209,10 @@ fn serve_bench<L: Link + Drop, C: Clock + Drop, R: Source, S: Sink, T: Tape + Dr
 
 /// Runs the program on these words in a world, with its history on the tape.
 ///
-/// The status is 0 where the session ended at DISC or between two messages, 2 where the words aren't taken, 3 where the
-/// store can't be reached, 7 where the session ended otherwise, and 12 for want of memory. A status other than 0 has its line
-/// on the bench's error sink, or is said where there is no bench.
+/// The status is 0 where the session ended at DISC or between two messages and the store has all that was written, 2 where
+/// the words aren't taken, 3 where the store can't be reached or the last flush failed, 7 where the session ended otherwise,
+/// and 12 for want of memory. A status other than 0 has its line on the bench's error sink, or is said where there is no
+/// bench.
 pub fn run<W: World, T: Tape + Drop>(
     alloc: Global,
     words: &[String],

@@ -1,0 +1,283 @@
+//! Writes and flushes of the program in a world in memory, and of its disk.
+
+ghost use Rattle.std.specs.Prelude.{None};
+
+use crate::settings::SETTINGS;
+use crate::tests::{DISC, HANDSHAKE, OPENING, errors, joined, output, session};
+use sb_base::{Geometry, Kind, Line, parts};
+use sb_core::Core;
+use sb_crew::{Alone, Calls, Desk};
+use sb_fakes::{Failing, HandClock, PlainStore};
+use sb_world::{Got, Link, Tape};
+use std::alloc::{AllocError, Global};
+use std::test::Fail;
+
+/// The types of requests.
+const READ: u16 = 0;
+
+const WRITE: u16 = 1;
+
+const FLUSH: u16 = 3;
+
+/// A request without its bytes.
+fn request(
+    alloc: Global,
+    kind: u16,
+    cookie: u64,
+    offset: u64,
+    length: u32,
+) -> Result<Vec<u8>, AllocError> {
+    let mut bytes = Vec::new(alloc);
+    bytes.extend_from_slice(b"\x25\x60\x95\x13\x00\x00")?;
+    bytes.extend_from_slice(&kind.to_be_bytes())?;
+    bytes.extend_from_slice(&cookie.to_be_bytes())?;
+    bytes.extend_from_slice(&offset.to_be_bytes())?;
+    bytes.extend_from_slice(&length.to_be_bytes())?;
+    Ok(bytes)
+}
+
+/// A reply without its bytes.
+fn reply(alloc: Global, error: u32, cookie: u64) -> Result<Vec<u8>, AllocError> {
+    let mut bytes = Vec::new(alloc);
+    bytes.extend_from_slice(b"\x67\x44\x66\x98")?;
+    bytes.extend_from_slice(&error.to_be_bytes())?;
+    bytes.extend_from_slice(&cookie.to_be_bytes())?;
+    Ok(bytes)
+}
+
+#[test]
+fn what_was_written_is_read(rt: HostRuntime) -> Result<(), Fail> {
+    let alloc = rt.alloc();
+    let asked = joined(
+        alloc,
+        &[
+            &request(alloc, WRITE, 1, 0, 4096)?,
+            &[0x41; 4096],
+            &request(alloc, FLUSH, 2, 0, 0)?,
+            &request(alloc, READ, 3, 4095, 2)?,
+        ],
+    )?;
+    let done = session(
+        alloc,
+        PlainStore::new(alloc),
+        &[OPENING, asked.bytes(), DISC],
+        4096,
+    )?;
+    let wanted = joined(
+        alloc,
+        &[
+            HANDSHAKE,
+            &reply(alloc, 0, 1)?,
+            &reply(alloc, 0, 2)?,
+            &reply(alloc, 0, 3)?,
+            &[0x41, 0],
+        ],
+    )?;
+    assert_eq!(rt; done.status, 0);
+    assert_eq!(rt; output(&done), wanted.bytes());
+    Ok(())
+}
+
+#[test]
+fn a_last_flush_that_fails_is_the_status(rt: HostRuntime) -> Result<(), Fail> {
+    let alloc = rt.alloc();
+    let asked = joined(alloc, &[&request(alloc, WRITE, 1, 0, 4096)?, &[0x41; 4096]])?;
+    let fails = Vec::from_array(alloc, [1])?;
+    let link = Failing::new(alloc, PlainStore::new(alloc), fails);
+    let done = session(alloc, link, &[OPENING, asked.bytes(), DISC], 4096)?;
+    let wanted = joined(alloc, &[HANDSHAKE, &reply(alloc, 0, 1)?])?;
+    assert_eq!(rt; done.status, 3);
+    assert_eq!(rt; output(&done), wanted.bytes());
+    assert_eq!(rt; errors(&done), b"s3backer: store fault 503\n".as_slice());
+    Ok(())
+}
+
+/// A tape that keeps the kinds of events with their blocks, in the order of time.
+#[derive(Drop)]
+struct Kinds {
+    text: Vec<u8>,
+}
+
+impl Kinds {
+    /// Adds an event, of a block below 10.
+    fn note(&mut self, kind: &[u8], block: u32) {
+        let _kind = self.text.extend_from_slice(kind);
+        let _block = self
+            .text
+            .extend_from_slice(&[b' ', b'0' + block as u8, b'\n']);
+    }
+}
+
+impl Tape for Kinds {
+    ghost told = { λ _. None };
+
+    fn add(&mut self, line: Line<'_>) {
+        match line.kind {
+            Kind::Read(part, _) => self.note(b"Read", part.block),
+            Kind::Write(part, _) => self.note(b"Write", part.block),
+            Kind::FlushBegin(_) => self.note(b"FlushBegin", 0),
+            Kind::FlushDone(_) => self.note(b"FlushDone", 0),
+            Kind::GetBegin(block, _, _) => self.note(b"GetBegin", block),
+            Kind::GetEnd { block, .. } => self.note(b"GetEnd", block),
+            Kind::PutBegin(block, _) => self.note(b"PutBegin", block),
+            Kind::PutEnd(block, _) => self.note(b"PutEnd", block),
+            Kind::Dropped(block) => self.note(b"Dropped", block),
+            _ => self.note(b"other", 0),
+        }
+    }
+}
+
+#[test]
+fn a_write_over_a_border_puts_the_first_block_to_make_room(rt: HostRuntime) -> Result<(), Fail> {
+    let alloc = rt.alloc();
+    let geometry = Geometry::make(65_536, 4096)?;
+    let mut desk = match Desk::new(
+        alloc,
+        PlainStore::new(alloc),
+        HandClock::new(alloc, 0, 0, false),
+        &geometry,
+    ) {
+        Ok(desk) => desk,
+        Err(_) => return Err(Fail::from("no memory")),
+    };
+    let kinds = Kinds {
+        text: Vec::new(alloc),
+    };
+    let mut disk = Alone::new(Core::new(alloc, geometry, SETTINGS)?, kinds);
+    assert!(rt; disk.flush(&mut desk).is_ok());
+    for part in parts(&geometry, 2048, 4096) {
+        assert!(rt; disk.write(&mut desk, part, &[0x41; 2048]).is_ok());
+    }
+    let (_core, kinds) = disk.finish();
+    let wanted =
+        b"FlushBegin 0\nFlushDone 0\nGetBegin 0\nGetEnd 0\nWrite 0\nPutBegin 0\nPutEnd 0\nDropped 0\nGetBegin 1\nGetEnd 1\nWrite 1\n";
+    assert_eq!(rt; kinds.text.as_slice(), wanted.as_slice());
+    Ok(())
+}
+
+/// The block of a store, `None` where it is absent. A call that fails is made once more.
+fn block_of(link: &mut Failing, name: &[u8]) -> Option<[u8; 4096]> {
+    let mut block = [0; 4096];
+    let got = match link.get(name, None, &mut block) {
+        Ok(got) => got,
+        Err(_) => match link.get(name, None, &mut block) {
+            Ok(got) => got,
+            Err(_) => return None,
+        },
+    };
+    match got {
+        Got::Bytes => Some(block),
+        _ => None,
+    }
+}
+
+/// The error of a reply that stands at a place, `None` where there is none.
+fn error_at(output: &[u8], at: usize) -> Option<u8> {
+    output.get(at + 7).copied()
+}
+
+#[test]
+fn a_failed_call_loses_nothing_that_was_flushed(rt: HostRuntime) -> Result<(), Fail> {
+    let alloc = rt.alloc();
+    let asked = joined(
+        alloc,
+        &[
+            &request(alloc, WRITE, 1, 0, 512)?,
+            &[0x41; 512],
+            &request(alloc, WRITE, 2, 4096, 4096)?,
+            &[0x42; 4096],
+            &request(alloc, FLUSH, 3, 0, 0)?,
+        ],
+    )?;
+    let replies = HANDSHAKE.len();
+    for call in 1..10 {
+        let fails = Vec::from_array(alloc, [call])?;
+        let link = Failing::new(alloc, PlainStore::new(alloc), fails);
+        let mut done = session(alloc, link, &[OPENING, asked.bytes(), DISC], 4096)?;
+        let first = error_at(output(&done), replies);
+        let second = error_at(output(&done), replies + 16);
+        let flush = error_at(output(&done), replies + 32);
+        assert!(rt; first == Some(0) || first == Some(5));
+        assert!(rt; second == Some(0) || second == Some(5));
+        assert!(rt; flush == Some(0) || flush == Some(5));
+        if flush == Some(0) || done.status == 0 {
+            let bench = match &mut done.world.last {
+                Some(bench) => bench,
+                None => return Err(Fail::from("no bench was shut")),
+            };
+            let small = block_of(&mut bench.links[0], b"00000000");
+            let whole = block_of(&mut bench.links[0], b"00000001");
+            assert!(rt; small.is_some() == (first == Some(0)));
+            assert!(rt; whole.is_some() == (second == Some(0)));
+            if let Some(small) = small {
+                assert!(rt; small[..512] == [0x41; 512]);
+                assert!(rt; small[512..].iter().all(|byte| *byte == 0));
+            }
+            if let Some(whole) = whole {
+                assert!(rt; whole == [0x42; 4096]);
+            }
+        }
+        if first == Some(0) && second == Some(0) && flush == Some(0) && done.status == 0 {
+            assert_eq!(rt; call, 4);
+            return Ok(());
+        }
+    }
+    Err(Fail::from("every session met a failure"))
+}
+
+/// Numbers that look random.
+#[derive(Drop)]
+struct Numbers {
+    state: u64,
+}
+
+impl Numbers {
+    /// The next number below a limit, by Marsaglia's xorshift.
+    fn below(&mut self, limit: u64) -> u64 {
+        self.state ^= self.state << 13;
+        self.state ^= self.state >> 7;
+        self.state ^= self.state << 17;
+        self.state % limit
+    }
+}
+
+#[test]
+fn random_requests_get_the_replies_of_an_array(rt: HostRuntime) -> Result<(), Fail> {
+    let alloc = rt.alloc();
+    let mut numbers = Numbers {
+        state: 88_172_645_463_325_252,
+    };
+    let mut disk = Vec::new(alloc);
+    disk.resize(65_536, 0)?;
+    let mut asked = Vec::new(alloc);
+    let mut wanted = Vec::new(alloc);
+    wanted.extend_from_slice(HANDSHAKE)?;
+    for cookie in 0..4000 {
+        let length = numbers.below(1200);
+        let offset = numbers.below(65_537 - length);
+        let begin = offset as usize;
+        let end = (offset + length) as usize;
+        match numbers.below(9) {
+            0..=3 => {
+                let fill = numbers.below(3) as u8;
+                disk[begin..end].fill(fill);
+                asked.extend_from_slice(&request(alloc, WRITE, cookie, offset, length as u32)?)?;
+                asked.extend_from_slice(&disk[begin..end])?;
+                wanted.extend_from_slice(&reply(alloc, 0, cookie)?)?;
+            }
+            4..=7 => {
+                asked.extend_from_slice(&request(alloc, READ, cookie, offset, length as u32)?)?;
+                wanted.extend_from_slice(&reply(alloc, 0, cookie)?)?;
+                wanted.extend_from_slice(&disk[begin..end])?;
+            }
+            _ => {
+                asked.extend_from_slice(&request(alloc, FLUSH, cookie, offset, 0)?)?;
+                wanted.extend_from_slice(&reply(alloc, 0, cookie)?)?;
+            }
+        }
+    }
+    let done = session(alloc, PlainStore::new(alloc), &[OPENING, &asked, DISC], 977)?;
+    assert_eq!(rt; done.status, 0);
+    assert!(rt; output(&done) == wanted.as_slice());
+    Ok(())
+}
