@@ -1,6 +1,6 @@
 #!/usr/bin/env python3
 """Runs sessions of the built program and compares bytes, statuses and peak memory. Usage: sessions.py PROGRAM"""
-import resource, subprocess, sys
+import random, resource, subprocess, sys
 
 program = sys.argv[1]
 GREETING = bytes.fromhex("4e42444d41474943 49484156454f5054 0003")
@@ -9,8 +9,26 @@ NO_ZEROES = bytes.fromhex("00000003")
 DISC = bytes.fromhex("25609513 0000 0002 0000000000000000 0000000000000000 00000000")
 
 
+READ, WRITE, FLUSH, TRIM, WRITE_ZEROES = 0, 1, 3, 4, 6
+EINVAL, ENOSPC = 22, 28
+LARGEST = 33554432
+
+
+def request(kind, cookie, offset, length, flags=0):
+    return (bytes.fromhex("25609513") + flags.to_bytes(2, "big") + kind.to_bytes(2, "big") + cookie.to_bytes(8, "big")
+            + offset.to_bytes(8, "big") + length.to_bytes(4, "big"))
+
+
 def read(cookie, offset, length):
-    return bytes.fromhex("25609513 0000 0000") + cookie.to_bytes(8, "big") + offset.to_bytes(8, "big") + length.to_bytes(4, "big")
+    return request(READ, cookie, offset, length)
+
+
+def write(cookie, offset, body):
+    return request(WRITE, cookie, offset, len(body)) + body
+
+
+def flush(cookie):
+    return request(FLUSH, cookie, 0, 0)
 
 
 def error(number, cookie):
@@ -53,9 +71,54 @@ expect("a read past the end", run(SMALL, OPEN + read(1, 65536, 1) + DISC), (0, e
 expect("a wrong magic", run(SMALL, OPEN + bytes.fromhex("25609514") + bytes(24)), (7, export(65536), refused))
 expect("a cut request", run(SMALL, OPEN + read(1, 0, 512)[:10]), (7, export(65536), refused))
 expect("unknown flags", run(SMALL, bytes.fromhex("00000004")), (7, GREETING, refused))
+expect("a write, a flush and a read", run(SMALL, OPEN + write(1, 0, b"A" * 4096) + flush(2) + read(3, 4095, 2) + DISC),
+       (0, export(65536) + reply(1, b"") + reply(2, b"") + reply(3, b"A\0"), b""))
+expect("ranges at the end", run(SMALL, OPEN + write(1, 65535, b"B") + write(2, 65536, b"C") + write(3, 65535, b"DE")
+                                + read(4, 65535, 1) + read(5, 65535, 2) + write(6, 65536, b"") + read(7, 2**64 - 1, 1) + DISC),
+       (0, export(65536) + reply(1, b"") + error(ENOSPC, 2) + error(ENOSPC, 3) + reply(4, b"B") + error(EINVAL, 5)
+        + reply(6, b"") + error(EINVAL, 7), b""))
+expect("requests that are not known", run(SMALL, OPEN + request(TRIM, 1, 0, 512) + request(WRITE_ZEROES, 2, 0, 512)
+                                          + request(99, 3, 0, 0) + request(READ, 4, 0, 512, flags=1) + DISC),
+       (0, export(65536) + b"".join(error(EINVAL, cookie) for cookie in (1, 2, 3, 4)), b""))
+expect("a read that is too long", run(["--stdio", "--size=64m", "memory"], OPEN + read(1, 0, LARGEST + 1) + DISC),
+       (0, export(67108864) + error(EINVAL, 1), b""))
+expect("a write that is too long", run(["--stdio", "--size=64m", "memory"], OPEN + request(WRITE, 1, 0, LARGEST + 1)),
+       (7, export(67108864), refused))
 expect("no size", run(["--stdio", "--size=64q", "memory"], b""), (2, b"", b"s3backer: usage: --size: not a size: 64q\n"))
 expect("an empty disk", run(["--stdio", "--size=0", "memory"], b"")[0], 2)
 expect("no words", run([], b"")[0], 2)
+
+
+def random_session(seed, size, count):
+    """The requests of a session that a seed gives, and the replies that an array of bytes would make."""
+    choice = random.Random(seed)
+    disk, given, wanted = bytearray(size), bytearray(OPEN), bytearray(export(size))
+    for cookie in range(count):
+        length = choice.choice([0, 1, 511, 512, 4096, 4097, 9000, choice.randrange(2 * 4096)])
+        offset = choice.choice([choice.randrange(size), size - length, size - 1, 4096 * choice.randrange(size // 4096)])
+        kind = choice.choice([READ, READ, WRITE, WRITE, WRITE, FLUSH, TRIM])
+        past = offset + length > size
+        if kind == WRITE:
+            body = choice.choice([bytes(length), choice.randbytes(length)])
+            given += write(cookie, offset, body)
+            if not past:
+                disk[offset:offset + length] = body
+            wanted += error(ENOSPC if past else 0, cookie)
+        elif kind == READ:
+            given += read(cookie, offset, length)
+            wanted += error(EINVAL, cookie) if past else reply(cookie, bytes(disk[offset:offset + length]))
+        elif kind == FLUSH:
+            given += request(FLUSH, cookie, offset, length)
+            wanted += error(0, cookie)
+        else:
+            given += request(TRIM, cookie, offset, length)
+            wanted += error(EINVAL, cookie)
+    return bytes(given + DISC), bytes(wanted)
+
+
+for seed in range(6):
+    given, wanted = random_session(seed, 65536, 1000)
+    expect(f"the random session {seed}", run(SMALL, given) == (0, wanted, b""), True)
 
 
 def peak(size):
