@@ -1,5 +1,6 @@
 -- An input is read in one way.
-use Rattle.std.proofs.Common.{ℕ, ◌≡◌, ◌≤◌, ◌<◌, ◌+◌, ◌∙◌, ◌^◌, List, [], ◌∷◌, ◌++◌, Option, Some, length, true, false, append_assoc, append-nil, ap, sym, subst, refl, arith, inl, inr, nat_eq, if◌then◌else◌}
+use Rattle.std.proofs.Common.{ℕ, ◌≡◌, ◌≤◌, ◌<◌, ◌+◌, ◌∙◌, ◌^◌, List, [], ◌∷◌, ◌++◌, Option, Some, length, true, false}
+use Rattle.std.proofs.Common.{append_assoc, append-nil, ap, sym, subst, refl, arith, inl, inr, nat_eq, if◌then◌else◌}
 use Rattle.std.specs.Int.{w32, to_be_bytes}
 use Rattle.std.specs.List.{AllByRecursion}
 use Rattle.std.proofs.lemmas.List.{length-append}
@@ -15,7 +16,8 @@ use Rattle.sb_nbd.specs.RequestReading.{IsCutRequest, StopsRequest}
 use Rattle.sb_nbd.proofs.OneForm.{one_request, split_same, same_4, regrouped, same_wanted_first}
 use Rattle.sb_nbd.proofs.RequestParts.{length-magic_bytes, length-fields_bytes}
 use Rattle.sb_session.specs.declared.end.SessionEnd.{SessionEnd}
-use Rattle.sb_session.specs.declared.end.SessionEnd.TheVariants.{Disconnected, Ended, Refused, ReadFault, WriteFault, Spent}
+use Rattle.sb_session.specs.declared.end.SessionEnd.TheVariants.{Disconnected, Ended, Refused, ReadFault, WriteFault}
+use Rattle.sb_session.specs.declared.end.SessionEnd.TheVariants.{Spent}
 use Rattle.sb_session.specs.Goals.{is_disc}
 use Rattle.sb_session.specs.Transcripts.{Exchange, IsTranscript, asking_bytes, requests_of}
 use Rattle.sb_session.specs.Handshakes.{end_of}

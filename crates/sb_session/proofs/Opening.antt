@@ -1,5 +1,6 @@
 -- A handshake, and the session behind it.
-use Rattle.std.proofs.Common.{ℕ, ◌≡◌, ◌≤◌, ◌<◌, ◌*◌, ◌∙◌, List, [], ◌++◌, Option, Err, take, append_assoc, ap, sym, subst, refl, inl, inr, arith}
+use Rattle.std.proofs.Common.{ℕ, ◌≡◌, ◌≤◌, ◌<◌, ◌*◌, ◌∙◌, List, [], ◌++◌, Option, Err, take, append_assoc, ap, sym}
+use Rattle.std.proofs.Common.{subst, refl, inl, inr, arith}
 use Rattle.std.specs.Int.{w32, to_be_bytes}
 use Rattle.sb_base.specs.declared.geometry.Geometry.{Geometry}
 use Rattle.sb_base.specs.declared.entry.Entry.{Entry}

@@ -1,5 +1,7 @@
 -- Reading and writing ranges, part by part, and the replies.
-use Rattle.std.proofs.Common.{ℕ, ◌≡◌, ◌≤◌, ◌<◌, ◌+◌, ◌-◌, ◌∙◌, List, [], ◌∷◌, ◌++◌, length, take, drop, Ok, Err, sum_by, Some, length-take, length-drop, append_assoc, append-nil, ap, sym, subst, refl, arith, inl, inr}
+use Rattle.std.proofs.Common.{ℕ, ◌≡◌, ◌≤◌, ◌<◌, ◌+◌, ◌-◌, ◌∙◌, List, [], ◌∷◌, ◌++◌, length, take, drop, Ok, Err, sum_by}
+use Rattle.std.proofs.Common.{Some, length-take, length-drop, append_assoc, append-nil, ap, sym, subst, refl, arith}
+use Rattle.std.proofs.Common.{inl, inr}
 use Rattle.std.specs.List.{AllByRecursion}
 use Rattle.std.proofs.lemmas.List.{length-append, drop-drop}
 use Rattle.std.proofs.lemmas.List.Sums.{sum_by-append, sum_by-cons}
@@ -11,9 +13,12 @@ use Rattle.sb_base.specs.declared.entry.Entry.{Entry}
 use Rattle.sb_world.specs.declared.link.Call.{Call}
 use Rattle.sb_nbd.specs.Requests.{Request}
 use Rattle.sb_crew.specs.declared.calls.CallFault.{CallFault}
-use Rattle.sb_crew.specs.Outcomes.{Outcome, ReadDone, outcome_of, outcomes_of, bytes_of, bytes_read, asked_of, blocks_asked, IsBlockOf, AsksOnly, HasCause, ReadDoes, Does, Stops, WriteDone, WriteDoes, FlushDoes, flush_of}
+use Rattle.sb_crew.specs.Outcomes.{Outcome, ReadDone, outcome_of, outcomes_of, bytes_of, bytes_read, asked_of}
+use Rattle.sb_crew.specs.Outcomes.{blocks_asked, IsBlockOf, AsksOnly, HasCause, ReadDoes, Does, Stops, WriteDone}
+use Rattle.sb_crew.specs.Outcomes.{WriteDoes, FlushDoes, flush_of}
 use Rattle.sb_session.specs.Goals.{refusal, reads_of, writes_of}
-use Rattle.sb_session.specs.Answers.{ReadsRange, WritesRange, IsAnswer, ReadAnswers, WriteAnswers, FlushAnswers, Answers, AnswersBy, parts_asked, error_of}
+use Rattle.sb_session.specs.Answers.{ReadsRange, WritesRange, IsAnswer, ReadAnswers, WriteAnswers, FlushAnswers}
+use Rattle.sb_session.specs.Answers.{Answers, AnswersBy, parts_asked, error_of}
 
 pub outcomes_of-append : (xs ys : List Entry) → outcomes_of (ys ++ xs) ≡ outcomes_of ys ++ outcomes_of xs
 outcomes_of-append xs [] = refl

@@ -1,5 +1,6 @@
 -- What one request comes to.
-use Rattle.std.proofs.Common.{ℕ, ◌≡◌, ◌≢◌, List, [], ◌∷◌, ◌++◌, Option, Err, true, false, append-nil, sym, subst, refl, arith}
+use Rattle.std.proofs.Common.{ℕ, ◌≡◌, ◌≢◌, List, [], ◌∷◌, ◌++◌, Option, Err, true, false, append-nil, sym, subst, refl}
+use Rattle.std.proofs.Common.{arith}
 use Rattle.sb_base.specs.declared.geometry.Geometry.{Geometry}
 use Rattle.sb_base.specs.declared.entry.Entry.{Entry}
 use Rattle.sb_world.specs.Streams.{Takes, Holds, WriteHolds}
@@ -77,7 +78,13 @@ disc_stops geometry a b h did r done is disc taken =
 
 -- the exchange of a request that was done
 abbrev exchange : Request → List Entry → List Call → ℕ → List ℕ → Exchange
-exchange r entries calls error body = record { request = r; entries = entries; calls = calls; error = error; body = body }
+exchange r entries calls error body = record {
+  request = r;
+  entries = entries;
+  calls = calls;
+  error = error;
+  body = body;
+}
 
 -- what one exchange did
 did_one : (did : List Entry → List Call → Type 0) (entries : List Entry) (calls : List Call)

@@ -8,7 +8,8 @@ use Rattle.sb_nbd.specs.declared.greeting.TheConstants.{MAX_FLAGS}
 use Rattle.sb_session.specs.declared.end.SessionEnd.{SessionEnd}
 use Rattle.sb_session.specs.declared.end.SessionEnd.TheVariants.{WriteFault, Spent}
 use Rattle.sb_session.specs.declared.transmission.TheConstants.{MAX_ANSWERS}
-use Rattle.sb_session.specs.Transcripts.{Exchange, IsTranscript, entries_of, calls_of, asking_bytes, replying_bytes, requests_of}
+use Rattle.sb_session.specs.Transcripts.{Exchange, IsTranscript, entries_of, calls_of, asking_bytes, replying_bytes}
+use Rattle.sb_session.specs.Transcripts.{requests_of}
 use Rattle.sb_session.specs.Inputs.{IsInput}
 use Rattle.sb_session.specs.Handshakes.{Unopened, opening_bytes, handshake_bytes}
 use Rattle.sb_session.specs.Turns.{StopsBy, WritesOut}

@@ -8,7 +8,8 @@ use Rattle.sb_nbd.specs.declared.end.NbdEnd.{NbdEnd}
 use Rattle.sb_nbd.specs.Requests.{Request, request_bytes}
 use Rattle.sb_nbd.specs.RequestReading.{StopsRequest}
 use Rattle.sb_session.specs.declared.end.SessionEnd.{SessionEnd}
-use Rattle.sb_session.specs.declared.end.SessionEnd.TheVariants.{Disconnected, Ended, Refused, ReadFault, WriteFault, Spent}
+use Rattle.sb_session.specs.declared.end.SessionEnd.TheVariants.{Disconnected, Ended, Refused, ReadFault, WriteFault}
+use Rattle.sb_session.specs.declared.end.SessionEnd.TheVariants.{Spent}
 use Rattle.sb_session.specs.declared.transmission.TheConstants.{MAX_ANSWERS}
 use Rattle.sb_session.specs.Transcripts.{Exchange, IsTranscript, entries_of, calls_of, asking_bytes, replying_bytes}
 use Rattle.sb_session.specs.Inputs.{IsDisc}

@@ -8,9 +8,9 @@ ghost use Rattle.sb_nbd.specs.RequestReading.{request_in};
 ghost use Rattle.sb_session.specs.Goals.{is_disc, refusal};
 ghost use Rattle.sb_session.specs.Answers.{ReadAnswers, WriteAnswers, FlushAnswers, Answers, error_of};
 
-use sb_crew::{CallFault, Calls};
 use crate::range::{read_range, write_range};
 use sb_base::Geometry;
+use sb_crew::{CallFault, Calls};
 use sb_nbd::{EINVAL, EIO, ENOMEM, ENOSPC, FLUSH, MAX_PAYLOAD, READ, WRITE, Wanted};
 
 /// What a reply carries: an error number, 0 for none, and so many bytes of the buffer.

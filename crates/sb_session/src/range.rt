@@ -5,8 +5,8 @@ ghost use Rattle.sb_base.specs.Shapes.{IsSound};
 ghost use Rattle.sb_base.specs.Ranges.{IsRange, parts_of};
 ghost use Rattle.sb_session.specs.Answers.{ReadsRange, WritesRange};
 
-use sb_crew::{CallFault, Calls};
 use sb_base::parts;
+use sb_crew::{CallFault, Calls};
 
 /// Reads a range into the front of a buffer.
 pub(crate) fn read_range<K, D: Calls<K>>(

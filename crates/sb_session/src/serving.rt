@@ -13,8 +13,8 @@ use sb_crew::Calls;
 use sb_nbd::{EXPORT_NAME, MAX_PAYLOAD, read_flags, read_option, write_export, write_greeting};
 use sb_world::{Sink, Source};
 
-/// Serves one client until its session ends. `transmission` is what the export tells as the disk's flags; the buffer has
-/// room for the bytes of one request.
+/// Serves one client until its session ends. `transmission` is what the export tells as the disk's flags; the buffer
+/// has room for the bytes of one request.
 pub fn serve<K, D: Calls<K>, R: Source, S: Sink>(
     disk: &mut D,
     desk: &mut K,

@@ -132,16 +132,22 @@ const GREETING: &[u8] = b"NBDMAGICIHAVEOPT\x00\x03";
 /// The greeting, and an export of 65,536 bytes with the flags 5.
 const HANDSHAKE: &[u8] = b"NBDMAGICIHAVEOPT\x00\x03\x00\x00\x00\x00\x00\x01\x00\x00\x00\x05";
 
-const DISCONNECT: &[u8] =
-    b"\x25\x60\x95\x13\x00\x00\x00\x02\x00\x00\x00\x00\x00\x00\x00\x00\x00\x00\x00\x00\x00\x00\x00\x00\x00\x00\x00\x00";
+/// A request without flags.
+fn request(kind: u8, cookie: u8, offset: u32, length: u32) -> [u8; 28] {
+    let at = offset.to_be_bytes();
+    let count = length.to_be_bytes();
+    [
+        0x25, 0x60, 0x95, 0x13, 0, 0, 0, kind, 0, 0, 0, 0, 0, 0, 0, cookie, 0, 0, 0, 0, at[0],
+        at[1], at[2], at[3], count[0], count[1], count[2], count[3],
+    ]
+}
 
-/// Two bytes at 4,095, none at the end of the disk, and its last byte.
-const READS: &[u8] =
-    b"\x25\x60\x95\x13\x00\x00\x00\x00\x00\x00\x00\x00\x00\x00\x00\x03\x00\x00\x00\x00\x00\x00\x0f\xff\x00\x00\x00\x02\x25\x60\x95\x13\x00\x00\x00\x00\x00\x00\x00\x00\x00\x00\x00\x04\x00\x00\x00\x00\x00\x01\x00\x00\x00\x00\x00\x00\x25\x60\x95\x13\x00\x00\x00\x00\x00\x00\x00\x00\x00\x00\x00\x05\x00\x00\x00\x00\x00\x00\xff\xff\x00\x00\x00\x01";
-
-/// The replies to these, where the disk has `41` at 4,095, `5a` at its end, and zeros elsewhere.
-const REPLIES: &[u8] =
-    b"\x67\x44\x66\x98\x00\x00\x00\x00\x00\x00\x00\x00\x00\x00\x00\x03\x41\x00\x67\x44\x66\x98\x00\x00\x00\x00\x00\x00\x00\x00\x00\x00\x00\x04\x67\x44\x66\x98\x00\x00\x00\x00\x00\x00\x00\x00\x00\x00\x00\x05\x5a";
+/// The head of a reply.
+fn reply(error: u8, cookie: u8) -> [u8; 16] {
+    [
+        0x67, 0x44, 0x66, 0x98, 0, 0, 0, error, 0, 0, 0, 0, 0, 0, 0, cookie,
+    ]
+}
 
 fn joined(alloc: Global, parts: &[&[u8]]) -> Result<Vec<u8>, AllocError> {
     let mut all = Vec::new(alloc);
@@ -149,6 +155,36 @@ fn joined(alloc: Global, parts: &[&[u8]]) -> Result<Vec<u8>, AllocError> {
         all.extend_from_slice(part)?;
     }
     Ok(all)
+}
+
+/// Two bytes at 4,095, none at the end of the disk, and its last byte.
+fn reads(alloc: Global) -> Result<Vec<u8>, AllocError> {
+    let over_a_border = request(0, 3, 4_095, 2);
+    let none = request(0, 4, 65_536, 0);
+    let last = request(0, 5, 65_535, 1);
+    joined(
+        alloc,
+        &[over_a_border.as_slice(), none.as_slice(), last.as_slice()],
+    )
+}
+
+/// The replies to these, where the disk has `41` at 4,095 and `5a` at its end, and the first read had this error.
+fn replies(alloc: Global, error: u8) -> Result<Vec<u8>, AllocError> {
+    let mut all = Vec::new(alloc);
+    all.extend_from_slice(&reply(error, 3))?;
+    if error == 0 {
+        all.extend_from_slice(b"A\0")?;
+    }
+    all.extend_from_slice(&reply(0, 4))?;
+    all.extend_from_slice(&reply(0, 5))?;
+    all.extend_from_slice(b"Z")?;
+    Ok(all)
+}
+
+/// The opening, these requests, and DISC, in pieces of so many bytes.
+fn session_of(alloc: Global, requests: &[u8], piece: usize) -> Result<Incoming, AllocError> {
+    let disconnect = request(2, 0, 0, 0);
+    source_of(alloc, &[OPENING, requests, disconnect.as_slice()], piece)
 }
 
 fn source_of(alloc: Global, parts: &[&[u8]], piece: usize) -> Result<Incoming, AllocError> {
@@ -210,7 +246,7 @@ fn run(
 #[test]
 fn a_client_that_asks_for_nothing_gets_greeting_and_export(rt: HostRuntime) -> Result<(), Fail> {
     let mut room = vec![in rt.alloc(); 0; 33_554_432]?;
-    let mut source = source_of(rt.alloc(), &[OPENING, DISCONNECT], 4096)?;
+    let mut source = session_of(rt.alloc(), b"", 4096)?;
     let mut sink = sink_for(rt.alloc(), 9);
     assert_eq!(rt;
         run(
@@ -247,22 +283,30 @@ fn an_export_is_padded_unless_no_zeroes_are_wanted(rt: HostRuntime) -> Result<()
     Ok(())
 }
 
-/// Whether the bytes of the reads in pieces of this length get the replies.
-fn is_read(alloc: Global, piece: usize, room: &mut [u8]) -> Result<bool, AllocError>
+/// Whether the reads, in pieces of this length, get these replies, where the disk's first call fails so.
+fn is_read(
+    alloc: Global,
+    fault: Option<CallFault>,
+    piece: usize,
+    error: u8,
+    room: &mut [u8],
+) -> Result<bool, AllocError>
     requires { MAX_PAYLOAD ≤ length room.old }
     ensures { length room.new ≡ length room.old }
 {
-    let mut source = source_of(alloc, &[OPENING, READS, DISCONNECT], piece)?;
+    let requests = reads(alloc)?;
+    let mut source = session_of(alloc, requests.as_slice(), piece)?;
     let mut sink = sink_for(alloc, 9);
-    let end = run(alloc, None, &mut source, &mut sink, room)?;
-    let wanted = joined(alloc, &[HANDSHAKE, REPLIES])?;
+    let end = run(alloc, fault, &mut source, &mut sink, room)?;
+    let replies = replies(alloc, error)?;
+    let wanted = joined(alloc, &[HANDSHAKE, replies.as_slice()])?;
     Ok(end == Some(SessionEnd::Disconnected) && sink.bytes == wanted)
 }
 
 #[test]
 fn reads_in_one_piece_get_their_replies(rt: HostRuntime) -> Result<(), Fail> {
     let mut room = vec![in rt.alloc(); 0; 33_554_432]?;
-    let read = is_read(rt.alloc(), 4096, room.as_mut_slice())?;
+    let read = is_read(rt.alloc(), None, 4096, 0, room.as_mut_slice())?;
     assert!(rt; read);
     Ok(())
 }
@@ -270,82 +314,57 @@ fn reads_in_one_piece_get_their_replies(rt: HostRuntime) -> Result<(), Fail> {
 #[test]
 fn reads_in_pieces_of_one_byte_get_the_same_replies(rt: HostRuntime) -> Result<(), Fail> {
     let mut room = vec![in rt.alloc(); 0; 33_554_432]?;
-    let read = is_read(rt.alloc(), 1, room.as_mut_slice())?;
+    let read = is_read(rt.alloc(), None, 1, 0, room.as_mut_slice())?;
     assert!(rt; read);
     Ok(())
 }
 
-/// The replies to `READS` behind the error of the first.
-const AFTER_AN_ERROR: &[u8] =
-    b"\x00\x00\x00\x00\x00\x00\x00\x03\x67\x44\x66\x98\x00\x00\x00\x00\x00\x00\x00\x00\x00\x00\x00\x04\x67\x44\x66\x98\x00\x00\x00\x00\x00\x00\x00\x00\x00\x00\x00\x05\x5a";
-
 #[test]
 fn a_store_that_failed_is_an_error_and_the_session_goes_on(rt: HostRuntime) -> Result<(), Fail> {
     let mut room = vec![in rt.alloc(); 0; 33_554_432]?;
-    let mut source = source_of(rt.alloc(), &[OPENING, READS, DISCONNECT], 4096)?;
-    let mut sink = sink_for(rt.alloc(), 9);
     let failed = Some(CallFault::StoreFault { status: 503 });
-    let end = run(
-        rt.alloc(),
-        failed,
-        &mut source,
-        &mut sink,
-        room.as_mut_slice(),
-    )?;
-    assert_eq!(rt; end, Some(SessionEnd::Disconnected));
-    let error = b"\x67\x44\x66\x98\x00\x00\x00\x05";
-    let wanted = joined(rt.alloc(), &[HANDSHAKE, error.as_slice(), AFTER_AN_ERROR])?;
-    assert!(rt; sink.bytes == wanted);
+    let told = is_read(rt.alloc(), failed, 4096, 5, room.as_mut_slice())?;
+    assert!(rt; told);
     Ok(())
 }
 
 #[test]
 fn memory_that_ran_out_is_another_error(rt: HostRuntime) -> Result<(), Fail> {
     let mut room = vec![in rt.alloc(); 0; 33_554_432]?;
-    let mut source = source_of(rt.alloc(), &[OPENING, READS, DISCONNECT], 4096)?;
-    let mut sink = sink_for(rt.alloc(), 9);
     let memory = Some(CallFault::Memory);
-    let end = run(
-        rt.alloc(),
-        memory,
-        &mut source,
-        &mut sink,
-        room.as_mut_slice(),
-    )?;
-    assert_eq!(rt; end, Some(SessionEnd::Disconnected));
-    let error = b"\x67\x44\x66\x98\x00\x00\x00\x0c";
-    let wanted = joined(rt.alloc(), &[HANDSHAKE, error.as_slice(), AFTER_AN_ERROR])?;
-    assert!(rt; sink.bytes == wanted);
+    let told = is_read(rt.alloc(), memory, 4096, 12, room.as_mut_slice())?;
+    assert!(rt; told);
     Ok(())
 }
 
 /// Whether a session of these requests writes these replies behind the handshake, and is disconnected.
 fn is_answered(
     alloc: Global,
-    request: &[u8],
-    reply: &[u8],
+    requests: &[&[u8]],
+    replies: &[&[u8]],
     room: &mut [u8],
 ) -> Result<bool, AllocError>
     requires { MAX_PAYLOAD ≤ length room.old }
     ensures { length room.new ≡ length room.old }
 {
-    let mut source = source_of(alloc, &[OPENING, request, DISCONNECT], 4096)?;
+    let requests = joined(alloc, requests)?;
+    let mut source = session_of(alloc, requests.as_slice(), 4096)?;
     let mut sink = sink_for(alloc, 9);
     let end = run(alloc, None, &mut source, &mut sink, room)?;
-    let wanted = joined(alloc, &[HANDSHAKE, reply])?;
+    let replies = joined(alloc, replies)?;
+    let wanted = joined(alloc, &[HANDSHAKE, replies.as_slice()])?;
     Ok(end == Some(SessionEnd::Disconnected) && sink.bytes == wanted)
 }
 
 #[test]
 fn a_read_past_the_end_is_invalid(rt: HostRuntime) -> Result<(), Fail> {
     let mut room = vec![in rt.alloc(); 0; 33_554_432]?;
-    let request =
-        b"\x25\x60\x95\x13\x00\x00\x00\x00\x00\x00\x00\x00\x00\x00\x00\x02\x00\x00\x00\x00\x00\x00\xff\xff\x00\x00\x00\x02";
-    let reply = b"\x67\x44\x66\x98\x00\x00\x00\x16\x00\x00\x00\x00\x00\x00\x00\x02";
+    let read = request(0, 2, 65_535, 2);
+    let invalid = reply(22, 2);
     let answered = is_answered(
         rt.alloc(),
-        request.as_slice(),
-        reply.as_slice(),
+        &[read.as_slice()],
+        &[invalid.as_slice()],
         room.as_mut_slice(),
     )?;
     assert!(rt; answered);
@@ -355,13 +374,12 @@ fn a_read_past_the_end_is_invalid(rt: HostRuntime) -> Result<(), Fail> {
 #[test]
 fn a_write_past_the_end_has_no_space(rt: HostRuntime) -> Result<(), Fail> {
     let mut room = vec![in rt.alloc(); 0; 33_554_432]?;
-    let request =
-        b"\x25\x60\x95\x13\x00\x00\x00\x01\x00\x00\x00\x00\x00\x00\x00\x03\x00\x00\x00\x00\x00\x00\xff\xff\x00\x00\x00\x02AB";
-    let reply = b"\x67\x44\x66\x98\x00\x00\x00\x1c\x00\x00\x00\x00\x00\x00\x00\x03";
+    let write = request(1, 3, 65_535, 2);
+    let no_space = reply(28, 3);
     let answered = is_answered(
         rt.alloc(),
-        request.as_slice(),
-        reply.as_slice(),
+        &[write.as_slice(), b"AB"],
+        &[no_space.as_slice()],
         room.as_mut_slice(),
     )?;
     assert!(rt; answered);
@@ -371,13 +389,12 @@ fn a_write_past_the_end_has_no_space(rt: HostRuntime) -> Result<(), Fail> {
 #[test]
 fn a_trim_is_invalid(rt: HostRuntime) -> Result<(), Fail> {
     let mut room = vec![in rt.alloc(); 0; 33_554_432]?;
-    let request =
-        b"\x25\x60\x95\x13\x00\x00\x00\x04\x00\x00\x00\x00\x00\x00\x00\x04\x00\x00\x00\x00\x00\x00\x00\x00\x00\x00\x00\x02";
-    let reply = b"\x67\x44\x66\x98\x00\x00\x00\x16\x00\x00\x00\x00\x00\x00\x00\x04";
+    let trim = request(4, 4, 0, 2);
+    let invalid = reply(22, 4);
     let answered = is_answered(
         rt.alloc(),
-        request.as_slice(),
-        reply.as_slice(),
+        &[trim.as_slice()],
+        &[invalid.as_slice()],
         room.as_mut_slice(),
     )?;
     assert!(rt; answered);
@@ -387,24 +404,43 @@ fn a_trim_is_invalid(rt: HostRuntime) -> Result<(), Fail> {
 #[test]
 fn what_was_written_is_read_after_a_flush(rt: HostRuntime) -> Result<(), Fail> {
     let mut room = vec![in rt.alloc(); 0; 33_554_432]?;
-    let write =
-        b"\x25\x60\x95\x13\x00\x00\x00\x01\x00\x00\x00\x00\x00\x00\x00\x01\x00\x00\x00\x00\x00\x00\x00\x00\x00\x00\x10\x00";
-    let flush_and_read =
-        b"\x25\x60\x95\x13\x00\x00\x00\x03\x00\x00\x00\x00\x00\x00\x00\x02\x00\x00\x00\x00\x00\x00\x00\x00\x00\x00\x00\x00\x25\x60\x95\x13\x00\x00\x00\x00\x00\x00\x00\x00\x00\x00\x00\x03\x00\x00\x00\x00\x00\x00\x0f\xff\x00\x00\x00\x02";
-    let replies =
-        b"\x67\x44\x66\x98\x00\x00\x00\x00\x00\x00\x00\x00\x00\x00\x00\x01\x67\x44\x66\x98\x00\x00\x00\x00\x00\x00\x00\x00\x00\x00\x00\x02\x67\x44\x66\x98\x00\x00\x00\x00\x00\x00\x00\x00\x00\x00\x00\x03\x41\x00";
-    let request = joined(
+    let write = request(1, 1, 0, 4_096);
+    let flush = request(3, 2, 0, 0);
+    let read = request(0, 3, 4_095, 2);
+    let written = reply(0, 1);
+    let flushed = reply(0, 2);
+    let shown = reply(0, 3);
+    let answered = is_answered(
         rt.alloc(),
         &[
             write.as_slice(),
-            [65; 4096].as_slice(),
-            flush_and_read.as_slice(),
+            [0x41; 4_096].as_slice(),
+            flush.as_slice(),
+            read.as_slice(),
         ],
+        &[
+            written.as_slice(),
+            flushed.as_slice(),
+            shown.as_slice(),
+            b"A\0",
+        ],
+        room.as_mut_slice(),
     )?;
+    assert!(rt; answered);
+    Ok(())
+}
+
+#[test]
+fn a_write_over_a_border_is_read_from_both_blocks(rt: HostRuntime) -> Result<(), Fail> {
+    let mut room = vec![in rt.alloc(); 0; 33_554_432]?;
+    let write = request(1, 1, 4_094, 4);
+    let read = request(0, 2, 4_093, 6);
+    let written = reply(0, 1);
+    let shown = reply(0, 2);
     let answered = is_answered(
         rt.alloc(),
-        request.as_slice(),
-        replies.as_slice(),
+        &[write.as_slice(), b"abcd", read.as_slice()],
+        &[written.as_slice(), shown.as_slice(), b"\0abcd\0"],
         room.as_mut_slice(),
     )?;
     assert!(rt; answered);
@@ -447,7 +483,7 @@ fn an_option_to_list_is_refused(rt: HostRuntime) -> Result<(), Fail> {
     let bytes = b"\x00\x00\x00\x03IHAVEOPT\x00\x00\x00\x03\x00\x00\x00\x00";
     let refused = is_refused(
         rt.alloc(),
-        &[bytes.as_slice(), READS],
+        &[bytes.as_slice()],
         GREETING,
         room.as_mut_slice(),
     )?;
@@ -461,7 +497,7 @@ fn another_name_than_the_empty_one_is_refused(rt: HostRuntime) -> Result<(), Fai
     let bytes = b"\x00\x00\x00\x03IHAVEOPT\x00\x00\x00\x01\x00\x00\x00\x01a";
     let refused = is_refused(
         rt.alloc(),
-        &[bytes.as_slice(), READS],
+        &[bytes.as_slice()],
         GREETING,
         room.as_mut_slice(),
     )?;
@@ -472,7 +508,8 @@ fn another_name_than_the_empty_one_is_refused(rt: HostRuntime) -> Result<(), Fai
 #[test]
 fn a_source_that_fails_ends_the_session_so(rt: HostRuntime) -> Result<(), Fail> {
     let mut room = vec![in rt.alloc(); 0; 33_554_432]?;
-    let mut source = source_of(rt.alloc(), &[OPENING, READS], 4096)?;
+    let requests = reads(rt.alloc())?;
+    let mut source = source_of(rt.alloc(), &[OPENING, requests.as_slice()], 4096)?;
     source.fails = true;
     let mut sink = sink_for(rt.alloc(), 9);
     let end = run(
@@ -483,7 +520,8 @@ fn a_source_that_fails_ends_the_session_so(rt: HostRuntime) -> Result<(), Fail> 
         room.as_mut_slice(),
     )?;
     assert_eq!(rt; end, Some(SessionEnd::ReadFault));
-    let wanted = joined(rt.alloc(), &[HANDSHAKE, REPLIES])?;
+    let replies = replies(rt.alloc(), 0)?;
+    let wanted = joined(rt.alloc(), &[HANDSHAKE, replies.as_slice()])?;
     assert!(rt; sink.bytes == wanted);
     Ok(())
 }
@@ -491,7 +529,8 @@ fn a_source_that_fails_ends_the_session_so(rt: HostRuntime) -> Result<(), Fail> 
 #[test]
 fn a_sink_that_fails_ends_the_session_so(rt: HostRuntime) -> Result<(), Fail> {
     let mut room = vec![in rt.alloc(); 0; 33_554_432]?;
-    let mut source = source_of(rt.alloc(), &[OPENING, READS, DISCONNECT], 4096)?;
+    let requests = reads(rt.alloc())?;
+    let mut source = session_of(rt.alloc(), requests.as_slice(), 4096)?;
     let mut sink = sink_for(rt.alloc(), 3);
     let end = run(
         rt.alloc(),
@@ -501,7 +540,7 @@ fn a_sink_that_fails_ends_the_session_so(rt: HostRuntime) -> Result<(), Fail> {
         room.as_mut_slice(),
     )?;
     assert_eq!(rt; end, Some(SessionEnd::WriteFault));
-    let head = b"\x67\x44\x66\x98\x00\x00\x00\x00\x00\x00\x00\x00\x00\x00\x00\x03";
+    let head = reply(0, 3);
     let wanted = joined(rt.alloc(), &[HANDSHAKE, head.as_slice()])?;
     assert!(rt; sink.bytes == wanted);
     Ok(())

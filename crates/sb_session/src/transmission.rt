@@ -7,8 +7,8 @@ ghost use Rattle.sb_session.specs.Handshakes.{end_of};
 ghost use Rattle.sb_session.specs.Turns.{TurnEnds, TurnsEnd};
 
 use crate::answer::perform;
-use sb_crew::Calls;
 use crate::end::SessionEnd;
+use sb_crew::Calls;
 use sb_nbd::{DISC, MAX_PAYLOAD, NbdEnd, read_request, write_reply};
 use sb_world::{Sink, Source};
 

@@ -8,7 +8,9 @@ use Rattle.sb_session.proofs.tests.BytesCallsUnit.flush.Goals as goal
 
 pub returns-in-None-clause-did : goal.returns-in-None-clause-did
 returns-in-None-clause-did c = record {
-  entries = record { pass = 1; reading = 0; kind = kind.FlushDone 0 } ∷ record { pass = 1; reading = 0; kind = kind.FlushBegin 0 } ∷ [];
+  entries =
+      record { pass = 1; reading = 0; kind = kind.FlushDone 0 }
+      ∷ record { pass = 1; reading = 0; kind = kind.FlushBegin 0 } ∷ [];
   calls = [];
   done = tt;
   ends = (0, refl);
