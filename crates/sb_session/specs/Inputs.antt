@@ -38,8 +38,7 @@ IsMalformed bytes (nbd.TooBig size) = (w : Wanted) × (after : List ℕ) × Fits
 IsMalformed bytes end = ⊥
 
 -- all bytes behind the requests that were answered end the session so. After a fault of a stream, and after the last
--- request
--- that a session may answer, they may be any.
+-- request that a session may answer, they may be any.
 abbrev pub EndsInput : List ℕ → SessionEnd → Type 0
 EndsInput bytes Disconnected = (r : Request) × (after : List ℕ) × IsDisc r
     × (bytes ≡ request_bytes r ++ after)
