@@ -1,11 +1,11 @@
 #!/usr/bin/env python3
-"""Compares the signatures of sb_sign with those of botocore. Usage: signatures.py PROGRAM [SEED]
+"""Compares the signatures of sb_sign with those of botocore. Usage: signatures.py [SEED]
 
-PROGRAM is the built crates/sign_rows. It draws requests from a seed, and prints each with its signature. botocore encodes
-and signs the same requests, and what it gives has to be the same. Without SEED the seed comes from the clock. Where
+The program of crates/sign_rows draws requests from the seed, and prints each with its signature. botocore encodes and
+signs the same requests, and what it gives has to be the same. Without SEED the seed comes from the clock. Where
 botocore isn't installed, the script prints that it is skipped.
 """
-import datetime, subprocess, sys, time
+import datetime, os, subprocess, sys, time
 
 try:
     from botocore.auth import S3SigV4Auth
@@ -16,6 +16,7 @@ except ImportError:
     print("skipped: signatures")
     sys.exit(0)
 
+CRATE = os.path.join(os.path.dirname(os.path.dirname(os.path.abspath(__file__))), "crates", "sign_rows")
 COUNT = 400
 # What a prefix may have: 20 to 7e, but for the bytes that a listing would escape.
 PREFIX = set(map(chr, range(0x20, 0x7F))) - set("<>&\"'")
@@ -52,10 +53,9 @@ def signed_by_botocore(case):
 
 
 def main():
-    program = sys.argv[1]
-    seed = sys.argv[2] if len(sys.argv) > 2 else str(time.time_ns())
-    ran = subprocess.run([program, seed, str(COUNT)], capture_output=True, text=True, timeout=60, check=True)
-    cases = list(cases_of(ran.stdout))
+    seed = sys.argv[1] if len(sys.argv) > 1 else str(time.time_ns())
+    run = ["rt", "run", "--", seed, str(COUNT)]
+    cases = list(cases_of(subprocess.run(run, cwd=CRATE, stdout=subprocess.PIPE, text=True, check=True).stdout))
     failed = 0
     for number, case in enumerate(cases, 1):
         for word, wanted in signed_by_botocore(case).items():

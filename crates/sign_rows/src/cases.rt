@@ -1,6 +1,6 @@
 //! Requests of the kinds that a disk makes.
 
-ghost use Rattle.std.specs.Prelude.{◌≡◌, IfOk, OnOk, ◌++◌, ◌∷◌, []};
+ghost use Rattle.std.specs.Prelude.{◌≡◌, OnOk, ◌++◌, ◌∷◌, []};
 
 use crate::draws::Draws;
 use sb_base::Text;
@@ -140,7 +140,8 @@ fn add_pair(
     name: &[u8],
     value: &[u8],
 ) -> Result<(), AllocError>
-    ensures { OnOk result (pairs.new.items ≡ pairs.old.items ++ record { name = name.now; value = value.now } ∷ []) }
+    ensures { OnOk result (pairs.new.items
+        ≡ pairs.old.items ++ record { name = name.now; value = value.now } ∷ []) }
 {
     let name = Text::of(alloc, name)?;
     let value = Text::of(alloc, value)?;

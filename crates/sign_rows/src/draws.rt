@@ -1,6 +1,6 @@
 //! Numbers and texts that look random, and are the same for the same seed.
 
-ghost use Rattle.std.specs.Prelude.{ℕ, ◌<◌, ◌≤◌, All, Contains, IfOk, length};
+ghost use Rattle.std.specs.Prelude.{◌<◌, ◌≤◌, length};
 
 use sb_base::Text;
 use std::alloc::{AllocError, Global};

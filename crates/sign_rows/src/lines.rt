@@ -42,7 +42,14 @@ fn add_request(alloc: Global, lines: &mut Vec<u8>, request: &Request) -> Result<
 /// Adds a line for each pair.
 fn add_pairs(lines: &mut Vec<u8>, word: &[u8], pairs: &[Pair]) -> Result<(), AllocError> {
     for pair in pairs {
-        for part in [word, b": ", pair.name.bytes(), b"=", pair.value.bytes(), b"\n"] {
+        for part in [
+            word,
+            b": ",
+            pair.name.bytes(),
+            b"=",
+            pair.value.bytes(),
+            b"\n",
+        ] {
             lines.extend_from_slice(part)?;
         }
     }
