@@ -3,6 +3,9 @@
 //! The two words are the seed and how many requests there are.
 #![tactic(auto)]
 
+ghost use Rattle.std.specs.Prelude.{IfOk};
+ghost use Rattle.sb_sign.specs.Signatures.{IsAuthorized};
+
 mod cases;
 mod draws;
 mod lines;
@@ -36,7 +39,10 @@ fn number(word: Option<String>) -> anyhow::Result<u64> {
 }
 
 /// The signature of a case.
-fn signed(alloc: Global, case: &Case) -> Result<Authorization, SignFault> {
+fn signed(alloc: Global, case: &Case) -> Result<Authorization, SignFault>
+    ensures { IfOk result (IsAuthorized (record { id = case.now.id; secret = case.now.secret; region = case.now.region })
+        case.now.request case.now.moment) }
+{
     match Signer::new(
         alloc,
         case.id.bytes(),
