@@ -48,30 +48,22 @@ fn reply(alloc: Global, error: u32, cookie: u64) -> Result<Vec<u8>, AllocError> 
 #[test]
 fn what_was_written_is_read(rt: HostRuntime) -> Result<(), Fail> {
     let alloc = rt.alloc();
-    let asked = joined(
-        alloc,
-        &[
-            &request(alloc, WRITE, 1, 0, 4096)?,
-            &[0x41; 4096],
-            &request(alloc, FLUSH, 2, 0, 0)?,
-            &request(alloc, READ, 3, 4095, 2)?,
-        ],
-    )?;
+    let write = request(alloc, WRITE, 1, 0, 4096)?;
+    let flush = request(alloc, FLUSH, 2, 0, 0)?;
+    let read = request(alloc, READ, 3, 4095, 2)?;
+    let asked = joined(alloc, &[&write, &[0x41; 4096], &flush, &read])?;
     let done = session(
         alloc,
         PlainStore::new(alloc),
         &[OPENING, asked.bytes(), DISC],
         4096,
     )?;
+    let written = reply(alloc, 0, 1)?;
+    let flushed = reply(alloc, 0, 2)?;
+    let answered = reply(alloc, 0, 3)?;
     let wanted = joined(
         alloc,
-        &[
-            HANDSHAKE,
-            &reply(alloc, 0, 1)?,
-            &reply(alloc, 0, 2)?,
-            &reply(alloc, 0, 3)?,
-            &[0x41, 0],
-        ],
+        &[HANDSHAKE, &written, &flushed, &answered, &[0x41, 0]],
     )?;
     assert_eq!(rt; done.status, 0);
     assert_eq!(rt; output(&done), wanted.bytes());
@@ -81,11 +73,13 @@ fn what_was_written_is_read(rt: HostRuntime) -> Result<(), Fail> {
 #[test]
 fn a_last_flush_that_fails_is_the_status(rt: HostRuntime) -> Result<(), Fail> {
     let alloc = rt.alloc();
-    let asked = joined(alloc, &[&request(alloc, WRITE, 1, 0, 4096)?, &[0x41; 4096]])?;
+    let write = request(alloc, WRITE, 1, 0, 4096)?;
+    let asked = joined(alloc, &[&write, &[0x41; 4096]])?;
     let fails = Vec::from_array(alloc, [1])?;
     let link = Failing::new(alloc, PlainStore::new(alloc), fails);
     let done = session(alloc, link, &[OPENING, asked.bytes(), DISC], 4096)?;
-    let wanted = joined(alloc, &[HANDSHAKE, &reply(alloc, 0, 1)?])?;
+    let written = reply(alloc, 0, 1)?;
+    let wanted = joined(alloc, &[HANDSHAKE, &written])?;
     assert_eq!(rt; done.status, 3);
     assert_eq!(rt; output(&done), wanted.bytes());
     assert_eq!(rt; errors(&done), b"s3backer: store fault 503\n".as_slice());
@@ -179,15 +173,12 @@ fn error_at(output: &[u8], at: usize) -> Option<u8> {
 #[test]
 fn a_failed_call_loses_nothing_that_was_flushed(rt: HostRuntime) -> Result<(), Fail> {
     let alloc = rt.alloc();
+    let small = request(alloc, WRITE, 1, 0, 512)?;
+    let whole = request(alloc, WRITE, 2, 4096, 4096)?;
+    let flush = request(alloc, FLUSH, 3, 0, 0)?;
     let asked = joined(
         alloc,
-        &[
-            &request(alloc, WRITE, 1, 0, 512)?,
-            &[0x41; 512],
-            &request(alloc, WRITE, 2, 4096, 4096)?,
-            &[0x42; 4096],
-            &request(alloc, FLUSH, 3, 0, 0)?,
-        ],
+        &[&small, &[0x41; 512], &whole, &[0x42; 4096], &flush],
     )?;
     let replies = HANDSHAKE.len();
     for call in 1..10 {
