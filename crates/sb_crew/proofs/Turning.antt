@@ -1,5 +1,8 @@
 -- What a call did so far, after one turn more.
-use Rattle.std.proofs.Common.{ℕ, ◌≡◌, Bool, true, false, nat_eq, if◌then◌else◌, List, [], ◌∷◌, ◌++◌, Option, Some, None, Result, Ok, Err, IsSome, is_some, length, is_ok, is_none, refl, sym, ◌∙◌, ap, subst}
+use Rattle.std.proofs.Common.{ℕ, ◌≡◌, Bool, true, false, nat_eq, if◌then◌else◌, List, [], ◌∷◌, ◌++◌, Option, Some, None, Result, Ok, Err, IsSome, is_some, length, is_ok, is_none, refl, sym, ◌∙◌, ap, subst, ◌+◌, ◌-◌, ◌^◌, ◌≤◌, ◌⊎◌, inl, inr, arith}
+use mathlib.Core.Logic.{dite}
+use Rattle.std.proofs.Math.Decide.{dec_le}
+use Rattle.std.proofs.Math.Nat.{min-eq_left, min-eq_right, lt_of_not-le}
 use Rattle.std.specs.List.{AllByRecursion}
 use Rattle.std.proofs.lemmas.Bool.{eq-eqb}
 use Rattle.sb_base.specs.declared.geometry.Geometry.{Geometry}
@@ -7,8 +10,8 @@ use Rattle.sb_base.specs.declared.part.Part.{Part}
 use Rattle.sb_base.specs.declared.entry.Entry.{Entry}
 use Rattle.sb_base.specs.declared.entry.EntryKind.{EntryKind}
 use Rattle.sb_base.specs.declared.entry.EntryKind.TheVariants as kind
-use Rattle.sb_world.specs.Told.{Gains}
-use Rattle.sb_world.specs.Calls.{get_reply, fault_of}
+use Rattle.sb_world.specs.Told.{Gains, Rose, CountsFaults}
+use Rattle.sb_world.specs.Calls.{get_reply, fault_of, HasFailed}
 use Rattle.sb_world.specs.declared.clock.Tick.{Tick}
 use Rattle.sb_world.specs.declared.link.Call.{Call}
 use Rattle.sb_world.specs.declared.link.Call.TheVariants as call
@@ -24,13 +27,14 @@ use Rattle.sb_core.specs.declared.machine.Core.{Core}
 use Rattle.sb_core.specs.declared.job.GetJob.{GetJob}
 use Rattle.sb_core.specs.Represents.{geometry_of}
 use Rattle.sb_crew.specs.declared.calls.CallFault.{CallFault}
+use Rattle.sb_crew.specs.Counts.{is_failure, Counts}
 use Rattle.sb_crew.specs.Names.{block_name}
 use Rattle.sb_crew.specs.Answers.{shown_for, fault_for, EndsAs}
 use Rattle.sb_crew.specs.Outcomes as outcome
 use Rattle.sb_crew.specs.Outcomes.{Outcome, outcomes_of, outcome_of, bytes_read, bytes_of, asked_of, blocks_asked, IsBlockOf, AsksOnly, HasCause, Does, FlushBegun}
 use Rattle.sb_crew.specs.Runs.{sizes_of, any_past, HasBegun, Runs, RunsWhere, Did, DidWhere}
 use Rattle.sb_crew.specs.Turns.{SoFar, FetchDoes, StoreDoes}
-use Rattle.sb_crew.specs.Joins.{gains_nothing, runs_join, did_join}
+use Rattle.sb_crew.specs.Joins.{asked_nothing, runs_join, did_join}
 use Rattle.sb_crew.proofs.OutcomeLemmas.{cause_stays}
 
 -- a kind of histories that goes on with each entry
@@ -142,58 +146,99 @@ get_asks : (parts : List Part) (before : List Entry) (reading : ℕ) (job : GetJ
     → AsksOnly parts (get_entries reading job later result bytes taken ++ before)
 get_asks parts before reading job later result bytes taken asks same = record { asked = (same, asks.asked) }
 
+-- a count that rose, or stands at its end
+rose_by_one : (before now : ℕ) → Rose before now → (before + 1 ≤ now) ⊎ (2 ^ 64 - 1 ≤ now)
+rose_by_one before now rose =
+    dite (dec_le (before + 1) (2 ^ 64 - 1))
+    (λ low. inl (subst (λ (n : ℕ). n ≤ now) (min-eq_left low) rose))
+    (λ high. let above = lt_of_not-le high in
+        inr (subst (λ (n : ℕ). n ≤ now) (min-eq_right {n = 2 ^ 64 - 1} {m = before + 1} (omega (arith, above))) rose))
+
+risen_by : {T : Type 0} (before now : ℕ) (result : Result T LinkFault) → CountsFaults before now (HasFailed result)
+    → (before + ((if is_failure (fault_of result) then 1 else 0) + 0) ≤ now) ⊎ (2 ^ 64 - 1 ≤ now)
+risen_by before now (Ok value) counts = inl (omega (arith, counts.later))
+risen_by before now (Err link.Memory) counts = inl (omega (arith, counts.later))
+risen_by before now (Err (link.Failed status)) counts = rose_by_one before now (counts.rises (status, refl))
+
+-- a request counts as a failure where it failed for another cause than memory
+counts_so : {T : Type 0} (before now : ℕ) (result : Result T LinkFault) (asked : Call)
+    → outcome.fault_of asked ≡ fault_of result → CountsFaults before now (HasFailed result)
+    → Counts before now (asked ∷ [])
+counts_so before now result asked is counts =
+    let P : Option LinkFault → Type 0 = λ fault.
+        (before + ((if is_failure fault then 1 else 0) + 0) ≤ now) ⊎ (2 ^ 64 - 1 ≤ now) in
+    record { later = counts.later; risen = subst P (sym is) (risen_by before now result counts) }
+
+-- the fault of a GET, and of a put
+get_fault : (name : List ℕ) (verify : Option (List ℕ)) (result : Result Got LinkFault) (bytes : List ℕ)
+    → outcome.fault_of (call.Get name verify (get_reply result bytes)) ≡ fault_of result
+get_fault name verify (Ok got.Absent) bytes = refl
+get_fault name verify (Ok got.Bytes) bytes = refl
+get_fault name verify (Ok got.Same) bytes = refl
+get_fault name verify (Err fault) bytes = refl
+
 -- what a run of events and calls did
 module _ {Then : List Entry → Type 0} {b c : Core} {tape1 tape2 : Option (List Entry)} {clock1 clock2 : Option (List Tick)} where
   -- an event that asked for nothing
-  event_does : {log1 : Option (List Call)} {entry : Entry} (reading : ℕ) (of : EntryKind) → entry ≡ event reading of
+  event_does : {log1 : Option (List Call)} {faults1 : ℕ} {entry : Entry} (reading : ℕ) (of : EntryKind) → entry ≡ event reading of
       → RequestLog block_name (Some (sizes_of (geometry_of b))) (event reading of ∷ []) []
       → RunsWhere Then b c tape1 tape2 clock1 clock2 (entry ∷ [])
-      → DidWhere Then b c tape1 tape2 log1 log1 clock1 clock2 (event reading of ∷ []) []
-  event_does {log1} reading of is quiet runs =
-      record { runs = runs_of is runs; asked = gains_nothing log1; requests = quiet }
+      → DidWhere Then b c tape1 tape2 log1 log1 faults1 faults1 clock1 clock2 (event reading of ∷ []) []
+  event_does {log1} {faults1} reading of is quiet runs =
+      record { runs = runs_of is runs; asked = asked_nothing log1 faults1; requests = quiet }
 
-  get_does : {d : Core} {tape3 : Option (List Entry)} {log1 log3 : Option (List Call)} {clock3 : Option (List Tick)}
+  get_does : {d : Core} {tape3 : Option (List Entry)} {log1 log3 : Option (List Call)} {faults1 faults3 : ℕ} {clock3 : Option (List Tick)}
       {entry : Entry} {ended : Result Unit CallFault} (reading : ℕ) (job : GetJob)
       → entry ≡ event reading (kind.GetBegin job.block job.expect job.verify)
       → RunsWhere Then b c tape1 tape2 clock1 clock2 (entry ∷ [])
-      → (fetched : FetchDoes (Runs c d tape2 tape3 clock2 clock3) (Gains log1 log3) job.block job.verify ended)
-      → DidWhere Then b d tape1 tape3 log1 log3 clock1 clock3
-      (get_entries reading job fetched.reading fetched.got fetched.bytes fetched.taken)
+      → (fetched : FetchDoes (Runs c d tape2 tape3 clock2 clock3) (Gains log1 log3) (CountsFaults faults1 faults3) job.block job.verify ended)
+      → DidWhere Then b d tape1 tape3 log1 log3 faults1 faults3 clock1 clock3
+      (get_entries reading job fetched.answer.reading fetched.got fetched.bytes fetched.answer.taken)
       (get_calls job fetched.got fetched.bytes)
-  get_does reading job is runs fetched = record {
-    runs = runs_join (λ past fits. tt) (runs_of is runs) fetched.ran;
-    asked = fetched.called;
+  get_does {faults1 = faults1} {faults3 = faults3} reading job is runs fetched = record {
+    runs = runs_join (λ past fits. tt) (runs_of is runs) fetched.answer.ran;
+    asked = record {
+      gained = fetched.called;
+      counted = counts_so faults1 faults3 fetched.got (call.Get (block_name job.block) job.verify (get_reply fetched.got fetched.bytes))
+          (get_fault (block_name job.block) job.verify fetched.got fetched.bytes) fetched.counted;
+    };
     requests =
         (get_reply fetched.got fetched.bytes, [], refl, replies_fit fetched.got fetched.bytes, refl);
   }
 
-  put_does : {d : Core} {tape3 : Option (List Entry)} {log1 log3 : Option (List Call)} {clock3 : Option (List Tick)}
+  put_does : {d : Core} {tape3 : Option (List Entry)} {log1 log3 : Option (List Call)} {faults1 faults3 : ℕ} {clock3 : Option (List Tick)}
       {entry : Entry} {ended : Result Unit CallFault} (reading block : ℕ) (content : List ℕ)
       → entry ≡ event reading (kind.PutBegin block content)
       → RunsWhere Then b c tape1 tape2 clock1 clock2 (entry ∷ [])
-      → (stored : StoreDoes (Runs c d tape2 tape3 clock2 clock3) (Gains log1 log3) (sizes_of (geometry_of b)) block content ended)
-      → DidWhere Then b d tape1 tape3 log1 log3 clock1 clock3 (put_entries reading block content stored.reading stored.sent)
+      → (stored : StoreDoes (Runs c d tape2 tape3 clock2 clock3) (Gains log1 log3) (CountsFaults faults1 faults3) (sizes_of (geometry_of b)) block content ended)
+      → DidWhere Then b d tape1 tape3 log1 log3 faults1 faults3 clock1 clock3 (put_entries reading block content stored.reading stored.sent)
       (put_calls (sizes_of (geometry_of b)) block content stored.sent)
-  put_does reading block content is runs stored = record {
+  put_does {faults1 = faults1} {faults3 = faults3} reading block content is runs stored = record {
     runs = runs_join (λ past fits. tt) (runs_of is runs) stored.ran;
-    asked = stored.called;
+    asked = record {
+      gained = stored.called;
+      counted = counts_so faults1 faults3 stored.sent
+          (put_call (block_name block) (meta_of (Some (sizes_of (geometry_of b))) block) content (fault_of stored.sent))
+          (put_fault (is_zeros content) (block_name block) (meta_of (Some (sizes_of (geometry_of b))) block) content (fault_of stored.sent))
+          stored.counted;
+    };
     requests = put_asked (sizes_of (geometry_of b)) block content stored.sent reading stored.reading;
   }
 
 -- what a call did so far, and then what these entries and calls of the link say
 module _ {Then : List Entry → Type 0} {met : List Outcome} {a b : Core} {tape tape1 : Option (List Entry)}
-    {log log1 : Option (List Call)} {clock clock1 : Option (List Tick)} {parts : List Part} where
-  did_more : {c : Core} {tape2 : Option (List Entry)} {log2 : Option (List Call)} {clock2 : Option (List Tick)}
-      {ys : List Entry} {vs : List Call} (before : SoFar Then met a b tape tape1 log log1 clock clock1 parts)
-      → DidWhere Then b c tape1 tape2 log1 log2 clock1 clock2 ys vs
-      → Did a c tape tape2 log log2 clock clock2 (ys ++ before.entries) (vs ++ before.calls)
+    {log log1 : Option (List Call)} {faults faults1 : ℕ} {clock clock1 : Option (List Tick)} {parts : List Part} where
+  did_more : {c : Core} {tape2 : Option (List Entry)} {log2 : Option (List Call)} {faults2 : ℕ} {clock2 : Option (List Tick)}
+      {ys : List Entry} {vs : List Call} (before : SoFar Then met a b tape tape1 log log1 faults faults1 clock clock1 parts)
+      → DidWhere Then b c tape1 tape2 log1 log2 faults1 faults2 clock1 clock2 ys vs
+      → Did a c tape tape2 log log2 faults faults2 clock clock2 (ys ++ before.entries) (vs ++ before.calls)
   did_more before more = did_join (λ past fits. before.leads past) before.done more
 
   -- another block left the cache
   pub after_drop : {c : Core} {tape2 : Option (List Entry)} {clock2 : Option (List Tick)} {entry : Entry}
-      → Lasts Then → SoFar Then met a b tape tape1 log log1 clock clock1 parts
+      → Lasts Then → SoFar Then met a b tape tape1 log log1 faults faults1 clock clock1 parts
       → (reading dropped : ℕ) → entry ≡ event reading (kind.Dropped dropped)
-      → RunsWhere Then b c tape1 tape2 clock1 clock2 (entry ∷ []) → SoFar Then met a c tape tape2 log log1 clock clock2 parts
+      → RunsWhere Then b c tape1 tape2 clock1 clock2 (entry ∷ []) → SoFar Then met a c tape tape2 log log1 faults faults1 clock clock2 parts
   after_drop lasts before reading dropped is runs = record {
     entries = event reading (kind.Dropped dropped) ∷ before.entries;
     calls = before.calls;
@@ -207,11 +252,11 @@ module _ {Then : List Entry → Type 0} {met : List Outcome} {a b : Core} {tape 
 
   -- the event that answers the call
   pub ends_with : {c : Core} {tape2 : Option (List Entry)} {clock2 : Option (List Tick)} {entry : Entry}
-      → SoFar Then met a b tape tape1 log log1 clock clock1 parts
+      → SoFar Then met a b tape tape1 log log1 faults faults1 clock clock1 parts
       → (reading : ℕ) (of : EntryKind) → entry ≡ event reading of
       → RequestLog block_name (Some (sizes_of (geometry_of b))) (event reading of ∷ []) [] → asked_of of ≡ []
       → RunsWhere Then b c tape1 tape2 clock1 clock2 (entry ∷ [])
-      → Does (Did a c tape tape2 log log1 clock clock2) parts
+      → Does (Did a c tape tape2 log log1 faults faults1 clock clock2) parts
       (λ entries calls. (outcomes_of entries ≡ outcome_of of ++ met) × (bytes_read entries ≡ bytes_of of))
   ends_with before reading of is quiet asks runs = record {
     entries = event reading of ∷ before.entries;
@@ -225,41 +270,41 @@ module _ {Then : List Entry → Type 0} {met : List Outcome} {a b : Core} {tape 
   }
 
   -- a GET was made
-  pub after_get : {c d : Core} {tape2 tape3 : Option (List Entry)} {log3 : Option (List Call)}
+  pub after_get : {c d : Core} {tape2 tape3 : Option (List Entry)} {log3 : Option (List Call)} {faults3 : ℕ}
       {clock2 clock3 : Option (List Tick)} {entry : Entry} {ended : Result Unit CallFault}
-      → Lasts Then → SoFar Then met a b tape tape1 log log1 clock clock1 parts → (reading : ℕ) (job : GetJob)
+      → Lasts Then → SoFar Then met a b tape tape1 log log1 faults faults1 clock clock1 parts → (reading : ℕ) (job : GetJob)
       → entry ≡ event reading (kind.GetBegin job.block job.expect job.verify) → IsBlockOf parts job.block
       → RunsWhere Then b c tape1 tape2 clock1 clock2 (entry ∷ [])
-      → FetchDoes (Runs c d tape2 tape3 clock2 clock3) (Gains log1 log3) job.block job.verify ended
-      → SoFar Then met a d tape tape3 log log3 clock clock3 parts
+      → FetchDoes (Runs c d tape2 tape3 clock2 clock3) (Gains log1 log3) (CountsFaults faults1 faults3) job.block job.verify ended
+      → SoFar Then met a d tape tape3 log log3 faults faults3 clock clock3 parts
   after_get lasts before reading job is same runs fetched =
-      let more = get_entries reading job fetched.reading fetched.got fetched.bytes fetched.taken in
+      let more = get_entries reading job fetched.answer.reading fetched.got fetched.bytes fetched.answer.taken in
       record {
         entries = more ++ before.entries;
         calls = get_calls job fetched.got fetched.bytes ++ before.calls;
         done = did_more before (get_does reading job is runs fetched);
         met_so = before.met_so;
         no_bytes = ap (λ bs. (bs ++ []) ++ []) before.no_bytes;
-        asks = get_asks parts before.entries reading job fetched.reading fetched.got fetched.bytes fetched.taken before.asks same;
+        asks = get_asks parts before.entries reading job fetched.answer.reading fetched.got fetched.bytes fetched.answer.taken before.asks same;
         leads = λ past. lasts more (before.entries ++ past) (before.leads past);
       }
 
   -- a GET failed
-  pub get_fails : {c d : Core} {tape2 tape3 : Option (List Entry)} {log3 : Option (List Call)}
+  pub get_fails : {c d : Core} {tape2 tape3 : Option (List Entry)} {log3 : Option (List Call)} {faults3 : ℕ}
       {clock2 clock3 : Option (List Tick)} {entry : Entry} {ended : Result Unit CallFault}
-      → SoFar Then met a b tape tape1 log log1 clock clock1 parts → (reading : ℕ) (job : GetJob)
+      → SoFar Then met a b tape tape1 log log1 faults faults1 clock clock1 parts → (reading : ℕ) (job : GetJob)
       → entry ≡ event reading (kind.GetBegin job.block job.expect job.verify) → IsBlockOf parts job.block
       → RunsWhere Then b c tape1 tape2 clock1 clock2 (entry ∷ [])
-      → FetchDoes (Runs c d tape2 tape3 clock2 clock3) (Gains log1 log3) job.block job.verify ended
+      → FetchDoes (Runs c d tape2 tape3 clock2 clock3) (Gains log1 log3) (CountsFaults faults1 faults3) job.block job.verify ended
       → (fault : CallFault) → ended ≡ Err fault
-      → Does (Did a d tape tape3 log log3 clock clock3) parts
+      → Does (Did a d tape tape3 log log3 faults faults3 clock clock3) parts
       (λ entries calls. (outcomes_of entries ≡ met) × HasCause fault entries calls)
   get_fails before reading job is same runs fetched fault failed =
       let ends : EndsAs {U = Unit {0}} fetched.got (Err fault) =
-      subst (λ (r : Result Unit CallFault). EndsAs fetched.got r) failed fetched.ends in
+      subst (λ (r : Result Unit CallFault). EndsAs fetched.got r) failed fetched.answer.ends in
       let begun = event reading (kind.GetBegin job.block job.expect job.verify) in
-      let cause = get_failed job.block job.verify fetched.got fetched.bytes fetched.reading fetched.taken fault (begun ∷ []) ends in
-      let more = get_entries reading job fetched.reading fetched.got fetched.bytes fetched.taken in
+      let cause = get_failed job.block job.verify fetched.got fetched.bytes fetched.answer.reading fetched.answer.taken fault (begun ∷ []) ends in
+      let more = get_entries reading job fetched.answer.reading fetched.got fetched.bytes fetched.answer.taken in
       record {
         entries = more ++ before.entries;
         calls = get_calls job fetched.got fetched.bytes ++ before.calls;
@@ -268,20 +313,20 @@ module _ {Then : List Entry → Type 0} {met : List Outcome} {a b : Core} {tape 
           before.met_so,
           cause_stays fault before.entries more before.calls (get_calls job fetched.got fetched.bytes) cause,
         );
-        asks = get_asks parts before.entries reading job fetched.reading fetched.got fetched.bytes fetched.taken before.asks same;
+        asks = get_asks parts before.entries reading job fetched.answer.reading fetched.got fetched.bytes fetched.answer.taken before.asks same;
       }
 
   -- a put was made
-  pub after_put : {c d : Core} {tape2 tape3 : Option (List Entry)} {log3 : Option (List Call)}
+  pub after_put : {c d : Core} {tape2 tape3 : Option (List Entry)} {log3 : Option (List Call)} {faults3 : ℕ}
       {clock2 clock3 : Option (List Tick)} {entry : Entry} {ended : Result Unit CallFault}
-      → Lasts Then → SoFar Then met a b tape tape1 log log1 clock clock1 parts → (reading block : ℕ) (content : List ℕ)
+      → Lasts Then → SoFar Then met a b tape tape1 log log1 faults faults1 clock clock1 parts → (reading block : ℕ) (content : List ℕ)
       → entry ≡ event reading (kind.PutBegin block content)
       → (runs : RunsWhere Then b c tape1 tape2 clock1 clock2 (entry ∷ []))
-      → StoreDoes (Runs c d tape2 tape3 clock2 clock3) (Gains log1 log3) (sizes_of (geometry_of c)) block content ended
-      → SoFar Then met a d tape tape3 log log3 clock clock3 parts
-  after_put {c} {d} {tape2} {tape3} {log3} {clock2} {clock3} {ended = ended} lasts before reading block content is runs stores =
+      → StoreDoes (Runs c d tape2 tape3 clock2 clock3) (Gains log1 log3) (CountsFaults faults1 faults3) (sizes_of (geometry_of c)) block content ended
+      → SoFar Then met a d tape tape3 log log3 faults faults3 clock clock3 parts
+  after_put {c} {d} {tape2} {tape3} {log3} {faults3} {clock2} {clock3} {ended = ended} lasts before reading block content is runs stores =
       let P : Geometry → Type 0 = λ g.
-      StoreDoes (Runs c d tape2 tape3 clock2 clock3) (Gains log1 log3) (sizes_of g) block content ended in
+      StoreDoes (Runs c d tape2 tape3 clock2 clock3) (Gains log1 log3) (CountsFaults faults1 faults3) (sizes_of g) block content ended in
       let stored = subst P runs.base.geometry stores in
       let more = put_entries reading block content stored.reading stored.sent in
       record {
@@ -295,18 +340,18 @@ module _ {Then : List Entry → Type 0} {met : List Outcome} {a b : Core} {tape 
       }
 
   -- a put failed
-  pub put_fails : {c d : Core} {tape2 tape3 : Option (List Entry)} {log3 : Option (List Call)}
+  pub put_fails : {c d : Core} {tape2 tape3 : Option (List Entry)} {log3 : Option (List Call)} {faults3 : ℕ}
       {clock2 clock3 : Option (List Tick)} {entry : Entry} {ended : Result Unit CallFault}
-      → SoFar Then met a b tape tape1 log log1 clock clock1 parts → (reading block : ℕ) (content : List ℕ)
+      → SoFar Then met a b tape tape1 log log1 faults faults1 clock clock1 parts → (reading block : ℕ) (content : List ℕ)
       → entry ≡ event reading (kind.PutBegin block content)
       → (runs : RunsWhere Then b c tape1 tape2 clock1 clock2 (entry ∷ []))
-      → StoreDoes (Runs c d tape2 tape3 clock2 clock3) (Gains log1 log3) (sizes_of (geometry_of c)) block content ended
+      → StoreDoes (Runs c d tape2 tape3 clock2 clock3) (Gains log1 log3) (CountsFaults faults1 faults3) (sizes_of (geometry_of c)) block content ended
       → (fault : CallFault) → ended ≡ Err fault
-      → Does (Did a d tape tape3 log log3 clock clock3) parts
+      → Does (Did a d tape tape3 log log3 faults faults3 clock clock3) parts
       (λ entries calls. (outcomes_of entries ≡ met) × HasCause fault entries calls)
-  put_fails {c} {d} {tape2} {tape3} {log3} {clock2} {clock3} {ended = ended} before reading block content is runs stores fault failed =
+  put_fails {c} {d} {tape2} {tape3} {log3} {faults3} {clock2} {clock3} {ended = ended} before reading block content is runs stores fault failed =
       let P : Geometry → Type 0 = λ g.
-      StoreDoes (Runs c d tape2 tape3 clock2 clock3) (Gains log1 log3) (sizes_of g) block content ended in
+      StoreDoes (Runs c d tape2 tape3 clock2 clock3) (Gains log1 log3) (CountsFaults faults1 faults3) (sizes_of g) block content ended in
       let stored = subst P runs.base.geometry stores in
       let ends : EndsAs {U = Unit {0}} stored.sent (Err fault) =
       subst (λ (r : Result Unit CallFault). EndsAs stored.sent r) failed stored.ends in
@@ -325,14 +370,14 @@ module _ {Then : List Entry → Type 0} {met : List Outcome} {a b : Core} {tape 
       }
 
 -- the begin of a flush
-pub begins_flush : {a b : Core} {tape tape1 : Option (List Entry)} {log : Option (List Call)}
+pub begins_flush : {a b : Core} {tape tape1 : Option (List Entry)} {log : Option (List Call)} {faults : ℕ}
     {clock clock1 : Option (List Tick)} (reading mark : ℕ)
     → Runs a b tape tape1 clock clock1 (event reading (kind.FlushBegin mark) ∷ [])
-    → SoFar (HasBegun mark) (FlushBegun mark ∷ []) a b tape tape1 log log clock clock1 []
-begins_flush {log = log} reading mark runs = record {
+    → SoFar (HasBegun mark) (FlushBegun mark ∷ []) a b tape tape1 log log faults faults clock clock1 []
+begins_flush {log = log} {faults = faults} reading mark runs = record {
   entries = event reading (kind.FlushBegin mark) ∷ [];
   calls = [];
-  done = record { runs = runs; asked = gains_nothing log; requests = refl };
+  done = record { runs = runs; asked = asked_nothing log faults; requests = refl };
   met_so = refl;
   no_bytes = refl;
   asks = record { asked = tt };

@@ -1,5 +1,5 @@
 -- What two runs of calls did, one after the other.
-use Rattle.std.proofs.Common.{List, [], ◌∷◌, ◌++◌, Option, Some, None, refl, sym, ◌∙◌, ap, subst, append_assoc}
+use Rattle.std.proofs.Common.{ℕ, ◌≡◌, List, [], ◌∷◌, ◌++◌, Option, Some, None, refl, sym, ◌∙◌, ap, subst, append_assoc, ◌+◌, ◌-◌, ◌^◌, ◌≤◌, ◌⊎◌, inl, inr, arith, if◌then◌else◌}
 use Rattle.sb_base.specs.declared.geometry.Geometry.{Geometry}
 use Rattle.sb_base.specs.declared.settings.Settings.{Settings}
 use Rattle.sb_base.specs.declared.entry.Entry.{Entry}
@@ -13,6 +13,8 @@ use Rattle.sb_laws.proofs.Joins.{requests_join, clock_traces_join}
 use Rattle.sb_core.specs.declared.machine.Core.{Core}
 use Rattle.sb_core.specs.Represents.{Represents, geometry_of, settings_of}
 use Rattle.sb_crew.specs.Names.{block_name}
+use Rattle.sb_crew.specs.Outcomes.{fault_of}
+use Rattle.sb_crew.specs.Counts.{is_failure, failures, Counts, Asked}
 use Rattle.sb_crew.specs.Runs.{only_caller, sizes_of, RunsWhere, DidWhere}
 
 -- what was gained, and what was gained then
@@ -27,6 +29,45 @@ gains_join a b c xs ys first second = record {
 -- nothing was gained
 pub gains_nothing : {X : Type 0} (told : Option (List X)) → Gains told told []
 gains_nothing told = record { told = λ list now. (list, now, refl) }
+
+plus_assoc : (a b c : ℕ) → a + (b + c) ≡ (a + b) + c
+plus_assoc a b c = omega (arith)
+
+-- the failures among two runs of calls
+failures_join : (vs us : List Call) → failures (vs ++ us) ≡ failures vs + failures us
+failures_join [] us = omega (arith)
+failures_join (v ∷ vs) us =
+    ap (λ n. (if is_failure (fault_of v) then 1 else 0) + n) (failures_join vs us)
+    ∙ plus_assoc (if is_failure (fault_of v) then 1 else 0) (failures vs) (failures us)
+
+-- a count rose by the first failures and then by the second
+risen_join : (a b c m n : ℕ) → a ≤ b → b ≤ c → (a + m ≤ b) ⊎ (2 ^ 64 - 1 ≤ b) → (b + n ≤ c) ⊎ (2 ^ 64 - 1 ≤ c)
+    → (a + (n + m) ≤ c) ⊎ (2 ^ 64 - 1 ≤ c)
+risen_join a b c m n first second (inl low) (inl high) = inl (omega (arith, low, high))
+risen_join a b c m n first second (inl low) (inr high) = inr high
+risen_join a b c m n first second (inr low) high = inr (omega (arith, low, second))
+
+-- a link was asked for these calls, and then for those
+pub asked_join : (log log' log'' : Option (List Call)) (faults faults' faults'' : ℕ) (us vs : List Call)
+    → Asked log log' faults faults' us → Asked log' log'' faults' faults'' vs → Asked log log'' faults faults'' (vs ++ us)
+asked_join log log' log'' faults faults' faults'' us vs first second =
+    let P : ℕ → Type 0 = λ n. (faults + n ≤ faults'') ⊎ (2 ^ 64 - 1 ≤ faults'') in
+    record {
+      gained = gains_join log log' log'' us vs first.gained second.gained;
+      counted = record {
+        later = omega (arith, first.counted.later, second.counted.later);
+        risen = subst P (sym (failures_join vs us))
+            (risen_join faults faults' faults'' (failures us) (failures vs) first.counted.later second.counted.later
+            first.counted.risen second.counted.risen);
+      };
+    }
+
+-- a link was asked for nothing
+pub asked_nothing : (log : Option (List Call)) (faults : ℕ) → Asked log log faults faults []
+asked_nothing log faults = record {
+  gained = gains_nothing log;
+  counted = record { later = omega (arith); risen = inl (omega (arith)) };
+}
 
 pass_joins : (xs ys : List Entry) → IsOfPass 1 xs → IsOfPass 1 ys → IsOfPass 1 (ys ++ xs)
 pass_joins xs [] first second = first
@@ -56,23 +97,24 @@ runs_join {Is} {Then} {a} {b} {c} {tape} {tape'} {tape''} {clock} {clock'} {cloc
 
 -- what was done to histories of one kind, and then to those that it leads to
 pub did_join : {Is Then : List Entry → Type 0} {a b c : Core} {tape tape' tape'' : Option (List Entry)}
-    {log log' log'' : Option (List Call)} {clock clock' clock'' : Option (List Tick)} {xs ys : List Entry} {us vs : List Call}
-    → ((past : List Entry) → Is past → Then (xs ++ past)) → DidWhere Is a b tape tape' log log' clock clock' xs us
-    → DidWhere Then b c tape' tape'' log' log'' clock' clock'' ys vs
-    → DidWhere Is a c tape tape'' log log'' clock clock'' (ys ++ xs) (vs ++ us)
-did_join {Is} {Then} {a} {b} {c} {tape} {tape'} {tape''} {log} {log'} {log''} {clock} {clock'} {clock''} {xs} {ys} {us} {vs} leads first second =
+    {log log' log'' : Option (List Call)} {faults faults' faults'' : ℕ}
+    {clock clock' clock'' : Option (List Tick)} {xs ys : List Entry} {us vs : List Call}
+    → ((past : List Entry) → Is past → Then (xs ++ past)) → DidWhere Is a b tape tape' log log' faults faults' clock clock' xs us
+    → DidWhere Then b c tape' tape'' log' log'' faults' faults'' clock' clock'' ys vs
+    → DidWhere Is a c tape tape'' log log'' faults faults'' clock clock'' (ys ++ xs) (vs ++ us)
+did_join {Is} {Then} {a} {b} {c} {tape} {tape'} {tape''} {log} {log'} {log''} {faults} {faults'} {faults''} {clock} {clock'} {clock''} {xs} {ys} {us} {vs} leads first second =
     let P : Geometry → Type 0 = λ g. RequestLog block_name (Some (sizes_of g)) ys vs in
     record {
       runs = runs_join leads first.runs second.runs;
-      asked = gains_join log log' log'' us vs first.asked second.asked;
+      asked = asked_join log log' log'' faults faults' faults'' us vs first.asked second.asked;
       requests = requests_join block_name (Some (sizes_of (geometry_of a))) xs ys us vs first.requests
           (subst P first.runs.base.geometry second.requests);
     }
 
 -- nothing was done
 pub did_nothing : {Is : List Entry → Type 0} {core : Core} {tape : Option (List Entry)} {log : Option (List Call)}
-    {clock : Option (List Tick)} → DidWhere Is core core tape tape log log clock clock [] []
-did_nothing {core} {tape} {log} {clock} = record {
+    {faults : ℕ} {clock : Option (List Tick)} → DidWhere Is core core tape tape log log faults faults clock clock [] []
+did_nothing {core} {tape} {log} {faults} {clock} = record {
   runs = record {
     base = record { geometry = refl; settings = refl };
     history = λ past fits is. is;
@@ -82,6 +124,6 @@ did_nothing {core} {tape} {log} {clock} = record {
     readings = gains_nothing clock;
     trace = λ past fits is. refl;
   };
-  asked = gains_nothing log;
+  asked = asked_nothing log faults;
   requests = refl;
 }

@@ -1,4 +1,5 @@
 pub mod Outcomes
+pub mod Counts
 pub mod Names
 pub mod Desks
 pub mod Answers

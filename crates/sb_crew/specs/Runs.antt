@@ -15,6 +15,7 @@ use Rattle.sb_core.specs.declared.machine.Core.{Core}
 use Rattle.sb_core.specs.Represents.{Represents, geometry_of, settings_of}
 use Rattle.sb_core.specs.Progress.{SameBase}
 use Rattle.sb_crew.specs.Names.{block_name}
+use Rattle.sb_crew.specs.Counts.{Asked}
 
 -- the one caller of a disk on one thread
 abbrev pub only_caller : Caller
@@ -51,14 +52,14 @@ Runs core core' tape tape' clock clock' entries = RunsWhere any_past core core' 
 
 -- these entries were added, and the link's log gained just the calls that they stand for
 pub record DidWhere (Is : List Entry → Type 0) (core core' : Core) (tape tape' : Option (List Entry))
-    (log log' : Option (List Call)) (clock clock' : Option (List Tick)) (entries : List Entry) (calls : List Call)
-    : Type 0 where
+    (log log' : Option (List Call)) (faults faults' : ℕ) (clock clock' : Option (List Tick)) (entries : List Entry)
+    (calls : List Call) : Type 0 where
   pub runs : RunsWhere Is core core' tape tape' clock clock' entries
-  pub asked : Gains log log' calls
+  pub asked : Asked log log' faults faults' calls
   pub requests : RequestLog block_name (Some (sizes_of (geometry_of core))) entries calls
 
 -- the same for histories of every kind
 abbrev pub Did : Core → Core → Option (List Entry) → Option (List Entry) → Option (List Call) → Option (List Call)
-    → Option (List Tick) → Option (List Tick) → List Entry → List Call → Type 0
-Did core core' tape tape' log log' clock clock' entries calls =
-    DidWhere any_past core core' tape tape' log log' clock clock' entries calls
+    → ℕ → ℕ → Option (List Tick) → Option (List Tick) → List Entry → List Call → Type 0
+Did core core' tape tape' log log' faults faults' clock clock' entries calls =
+    DidWhere any_past core core' tape tape' log log' faults faults' clock clock' entries calls

@@ -3,7 +3,7 @@ use Rattle.std.specs.Prelude.{ℕ, ◌≡◌, Bool, List, [], ◌∷◌, ◌++�
 use Rattle.sb_base.specs.declared.part.Part.{Part}
 use Rattle.sb_base.specs.declared.entry.Entry.{Entry}
 use Rattle.sb_base.specs.declared.entry.EntryKind.TheVariants as kind
-use Rattle.sb_world.specs.Calls.{get_reply, fault_of}
+use Rattle.sb_world.specs.Calls.{get_reply, fault_of, HasFailed}
 use Rattle.sb_world.specs.declared.clock.Tick.{Tick}
 use Rattle.sb_world.specs.declared.link.Call.{Call}
 use Rattle.sb_world.specs.declared.link.Call.TheVariants as call
@@ -21,29 +21,38 @@ use Rattle.sb_crew.specs.Runs.{Did}
 -- what a call did so far: these outcomes, no bytes that it wants, and it asked for no other blocks than those of these
 -- parts. It led to histories of this kind.
 pub record SoFar (Then : List Entry → Type 0) (met : List Outcome) (core core' : Core) (tape tape' : Option (List Entry))
-    (log log' : Option (List Call)) (clock clock' : Option (List Tick)) (parts : List Part) : Type 0 where
+    (log log' : Option (List Call)) (faults faults' : ℕ) (clock clock' : Option (List Tick)) (parts : List Part)
+    : Type 0 where
   pub entries : List Entry
   pub calls : List Call
-  pub done : Did core core' tape tape' log log' clock clock' entries calls
+  pub done : Did core core' tape tape' log log' faults faults' clock clock' entries calls
   pub met_so : outcomes_of entries ≡ met
   pub no_bytes : bytes_read entries ≡ []
   pub asks : AsksOnly parts entries
   pub leads : (past : List Entry) → Then (entries ++ past)
 
--- what a GET did: one call of the link, one entry with its answer, and the fault of the call where it failed
-pub record FetchDoes (runs : List Entry → Type 0) (asked : List Call → Type 0) (block : ℕ) (verify : Option (List ℕ)) (result : Result Unit CallFault) : Type 0 where
-  pub got : Result Got LinkFault
-  pub bytes : List ℕ
+-- what the end of a GET did, by its answer: one entry, and the fault of the call where it failed
+pub record AnswerDoes (runs : List Entry → Type 0) (block : ℕ) (verify : Option (List ℕ)) (got : Result Got LinkFault)
+    (bytes : List ℕ) (result : Result Unit CallFault) : Type 0 where
   pub reading : ℕ
   pub taken : Bool
   pub ran : runs (record { pass = 1; reading = reading; kind = kind.GetEnd block (shown_for got bytes) verify taken } ∷ [])
-  pub called : asked (call.Get (block_name block) verify (get_reply got bytes) ∷ [])
   pub ends : EndsAs got result
 
+-- what a GET did: one call of the link, and its end
+pub record FetchDoes (runs : List Entry → Type 0) (asked : List Call → Type 0) (counts : Type 0 → Type 0) (block : ℕ)
+    (verify : Option (List ℕ)) (result : Result Unit CallFault) : Type 0 where
+  pub got : Result Got LinkFault
+  pub bytes : List ℕ
+  pub called : asked (call.Get (block_name block) verify (get_reply got bytes) ∷ [])
+  pub counted : counts (HasFailed got)
+  pub answer : AnswerDoes runs block verify got bytes result
+
 -- what a PUT did: one call of the link, one entry of its end, and the fault of the call where it failed
-pub record StoreDoes (runs : List Entry → Type 0) (asked : List Call → Type 0) (sizes : Meta) (block : ℕ) (content : List ℕ) (result : Result Unit CallFault) : Type 0 where
+pub record StoreDoes (runs : List Entry → Type 0) (asked : List Call → Type 0) (counts : Type 0 → Type 0) (sizes : Meta) (block : ℕ) (content : List ℕ) (result : Result Unit CallFault) : Type 0 where
   pub sent : Result Unit LinkFault
   pub reading : ℕ
   pub ran : runs (record { pass = 1; reading = reading; kind = kind.PutEnd block (is_ok sent) } ∷ [])
   pub called : asked (put_call (block_name block) (meta_of (Some sizes) block) content (fault_of sent) ∷ [])
+  pub counted : counts (HasFailed sent)
   pub ends : EndsAs sent result

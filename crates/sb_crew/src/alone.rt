@@ -79,7 +79,7 @@ impl<T: Tape, L: Link, C: Clock> Calls<Desk<L, C>> for Alone<T> {
 
     ghost ready = { λ disk desk. IsReady disk.core disk.reading (vec_len desk.room) };
 
-    ghost did = { λ disk desk disk' desk' entries calls. Did disk.core disk'.core (T.told disk.tape) (T.told disk'.tape) (L.log desk.link) (L.log desk'.link) (C.ticks desk.clock) (C.ticks desk'.clock) entries calls };
+    ghost did = { λ disk desk disk' desk' entries calls. Did disk.core disk'.core (T.told disk.tape) (T.told disk'.tape) (L.log desk.link) (L.log desk'.link) (L.faults desk.link) (L.faults desk'.link) (C.ticks desk.clock) (C.ticks desk'.clock) entries calls };
 
     ghost did_nothing = { λ disk desk. did_nothing };
 

@@ -53,8 +53,8 @@ fn call_fault(fault: LinkFault) -> CallFault
 
 impl<T: Tape> Alone<T> {
     ghost use Rattle.std.specs.Prelude.{Some};
-    ghost use Rattle.sb_world.specs.Calls.{fault_of};
-    ghost use Rattle.sb_world.specs.Told.{Gains};
+    ghost use Rattle.sb_world.specs.Calls.{fault_of, HasFailed, IsAsked};
+    ghost use Rattle.sb_world.specs.Told.{Gains, CountsFaults};
     ghost use Rattle.sb_history.specs.Contents.{is_zeros};
     ghost use Rattle.sb_history.specs.Requests.{meta_of, put_call};
     ghost use Rattle.sb_core.specs.Represents.{geometry_of, reading_of};
@@ -63,7 +63,7 @@ impl<T: Tape> Alone<T> {
     ghost use Rattle.sb_crew.specs.Names.{block_name};
     ghost use Rattle.sb_crew.specs.Ready.{IsReady};
     ghost use Rattle.sb_crew.specs.Runs.{Runs, sizes_of};
-    ghost use Rattle.sb_crew.specs.Turns.{FetchDoes, StoreDoes};
+    ghost use Rattle.sb_crew.specs.Turns.{AnswerDoes, FetchDoes, StoreDoes};
 
     /// Makes a GET, and gives its answer to the core.
     pub(crate) fn fetch<L: Link, C: Clock>(
@@ -76,13 +76,33 @@ impl<T: Tape> Alone<T> {
         requires job { HasGet self.old.core 1 job }
         requires current { self.old.reading ≡ reading_of self.old.core }
         requires room { length room.old ≡ (geometry_of self.old.core).block_size }
-        ensures did { FetchDoes (Runs self.old.core self.new.core (T.told self.old.tape) (T.told self.new.tape) (C.ticks clock.old) (C.ticks clock.new)) (Gains (L.log link.old) (L.log link.new)) job.block job.verify result }
+        ensures did { FetchDoes (Runs self.old.core self.new.core (T.told self.old.tape) (T.told self.new.tape) (C.ticks clock.old) (C.ticks clock.new)) (Gains (L.log link.old) (L.log link.new)) (CountsFaults (L.faults link.old) (L.faults link.new)) job.block job.verify result }
         ensures ready { IsReady self.new.core self.new.reading (length room.new) }
         ensures closer { OnOk result (IsCloser self.old.core self.new.core) }
     {
         let verify = job.verify();
+        let got = link.get(&block_name(job.block()), verify, room);
+        self.end_fetch(clock, room, job, got)
+    }
+
+    /// Gives the answer to a GET to the core, with its bytes in the buffer.
+    fn end_fetch<C: Clock>(
+        &mut self,
+        clock: &mut C,
+        room: &[u8],
+        job: GetJob,
+        got: Result<Got, LinkFault>,
+    ) -> Result<(), CallFault>
+        requires job { HasGet self.old.core 1 job }
+        requires asked { IsAsked got job.verify }
+        requires current { self.old.reading ≡ reading_of self.old.core }
+        requires room { length room.now ≡ (geometry_of self.old.core).block_size }
+        ensures did { AnswerDoes (Runs self.old.core self.new.core (T.told self.old.tape) (T.told self.new.tape) (C.ticks clock.old) (C.ticks clock.new)) job.block job.verify got room.now result }
+        ensures ready { IsReady self.new.core self.new.reading (length room.now) }
+        ensures closer { OnOk result (IsCloser self.old.core self.new.core) }
+    {
+        let verify = job.verify();
         let block = job.block();
-        let got = link.get(&block_name(block), verify, room);
         let now = clock.now();
         let answer = answer_of(got, room);
         let taken = is_taken(self.core.get_end(now, PASS, job, answer));
@@ -110,7 +130,7 @@ impl<T: Tape> Alone<T> {
         requires zeros { job.zeros ≡ is_zeros room.now }
         requires current { self.old.reading ≡ reading_of self.old.core }
         requires room { length room.now ≡ (geometry_of self.old.core).block_size }
-        ensures did { StoreDoes (Runs self.old.core self.new.core (T.told self.old.tape) (T.told self.new.tape) (C.ticks clock.old) (C.ticks clock.new)) (Gains (L.log link.old) (L.log link.new)) (sizes_of (geometry_of self.old.core)) job.block room.now result }
+        ensures did { StoreDoes (Runs self.old.core self.new.core (T.told self.old.tape) (T.told self.new.tape) (C.ticks clock.old) (C.ticks clock.new)) (Gains (L.log link.old) (L.log link.new)) (CountsFaults (L.faults link.old) (L.faults link.new)) (sizes_of (geometry_of self.old.core)) job.block room.now result }
         ensures ready { IsReady self.new.core self.new.reading (length room.now) }
         ensures closer { OnOk result (IsCloser self.old.core self.new.core) }
     {
@@ -131,7 +151,8 @@ impl<T: Tape> Alone<T> {
         zeros: bool,
     ) -> Result<(), LinkFault>
         requires { zeros ≡ is_zeros content.now }
-        ensures { Gains (L.log link.old) (L.log link.new) (put_call (block_name block) (meta_of (Some (sizes_of (geometry_of self.now.core))) block) content.now (fault_of result) ∷ []) }
+        ensures told { Gains (L.log link.old) (L.log link.new) (put_call (block_name block) (meta_of (Some (sizes_of (geometry_of self.now.core))) block) content.now (fault_of result) ∷ []) }
+        ensures cause { CountsFaults (L.faults link.old) (L.faults link.new) (HasFailed result) }
     {
         let name = block_name(block);
         if zeros {

@@ -67,7 +67,7 @@ impl<T: Tape> Alone<T> {
         requires ready { IsReady self.old.core self.old.reading (vec_len desk.old.room) }
         requires part { IsPart (geometry_of self.old.core) part }
         requires bytes { length bytes.now ≡ part.length }
-        ensures did { WriteDoes (Did self.old.core self.new.core (T.told self.old.tape) (T.told self.new.tape) (L.log desk.old.link) (L.log desk.new.link) (C.ticks desk.old.clock) (C.ticks desk.new.clock)) part bytes.now result }
+        ensures did { WriteDoes (Did self.old.core self.new.core (T.told self.old.tape) (T.told self.new.tape) (L.log desk.old.link) (L.log desk.new.link) (L.faults desk.old.link) (L.faults desk.new.link) (C.ticks desk.old.clock) (C.ticks desk.new.clock)) part bytes.now result }
         ensures ready { IsReady self.new.core self.new.reading (vec_len desk.new.room) }
     {
         let link = &mut desk.link;
