@@ -31,7 +31,7 @@ pub fn serve_alone<T: Tape, L: Link, C: Clock, R: Source, S: Sink>(
     ensures told { SessionTold (geometry_of (core_of disk.old)) TRANSMISSION_FLAGS (R.left source.old)
         (R.left source.new) (S.held sink.old) (S.held sink.new) (Did (core_of disk.old) (core_of disk.new)
         (T.told (tape_of disk.old)) (T.told (tape_of disk.new)) (L.log desk.old.link) (L.log desk.new.link)
-        (C.ticks desk.old.clock) (C.ticks desk.new.clock)) result }
+        (L.faults desk.old.link) (L.faults desk.new.link) (C.ticks desk.old.clock) (C.ticks desk.new.clock)) result }
     ensures read_cause { CountsFaults (R.faults source.old) (R.faults source.new) (result ≡ SessionEnd.ReadFault) }
     ensures write_cause { CountsFaults (S.faults sink.old) (S.faults sink.new) (result ≡ SessionEnd.WriteFault) }
 {
