@@ -1,0 +1,3 @@
+pub mod LastPuts
+pub mod Tables
+pub mod Windows
