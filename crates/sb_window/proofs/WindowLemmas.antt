@@ -4,13 +4,13 @@ use Rattle.std.specs.Prelude.{IfSome, nat_lt}
 use Rattle.std.specs.List.{filter}
 use Rattle.std.specs.Ordering.{nat_cmp}
 use Rattle.std.specs.Cmp.{nat_cmp_total}
-use Rattle.std.specs.FinMap.{FinMap, get, len, entries, insert, contains_key, entries_sorted, entries-from_sorted, len-entries, get-entries, same_entries_map, entries-insert, len-insert, empty, len-empty}
+use Rattle.std.specs.FinMap.{FinMap, get, len, entries, insert, contains_key, entries_sorted, entries-from_sorted, len-entries, get-entries, same_entries_map, entries-insert, len-insert, get-insert, empty, len-empty}
 use Rattle.std.proofs.lemmas.Bool.Decides.{nat_tests}
 use Rattle.sb_window.specs.declared.last_put.LastPut.{LastPut}
 use Rattle.sb_window.specs.declared.window.PutWhen.{PutWhen}
 use Rattle.sb_window.specs.declared.window.PutWhen.TheVariants.{Now, Busy, At, Full}
 use Rattle.sb_window.specs.LastPuts.{LastPuts, end_of, is_end_kept, is_kept, kept_puts, earliest_end, EndBy, AllEndBy, if_kept}
-use Rattle.sb_window.specs.Windows.{WindowState, IsWindow, put_when, when_new, when_by, when_full}
+use Rattle.sb_window.specs.Windows.{WindowState, IsWindow, put_when, when_new, when_by, when_full, is_open}
 use Rattle.sb_window.specs.Tables.{Table}
 use Rattle.sb_window.proofs.TableLemmas.{entries_rows, no_rows}
 use Rattle.sb_window.proofs.RowLemmas.{from_true, to_true, sorted_filter, filter_short}
@@ -148,3 +148,9 @@ pub begun_shape : (delay time reading now block : ℕ) (last : LastPut) (table :
 begun_shape delay time reading now block last table by le limit shape on ready =
     set_shape now block last (record { room = table.room; puts = kept_puts time now table.puts }) by
     (fits_begun (window delay time reading table) block now last shape.fits on ready) (purged_shape time reading now table le limit shape)
+
+-- a put that was set without an end is open
+pub set_open : (puts : LastPuts) (block : ℕ) (last : LastPut) → last.ending ≡ None → IsTrue (is_open (get (insert puts block last) block))
+set_open puts block last none =
+    let set = get-insert nat_cmp_total puts block last block in
+    grind (arith, nat_tests, set, none)

@@ -51,7 +51,11 @@ impl Model for Window {
 
 impl Window {
     /// A window without puts. It takes the memory of all that it will have, and no other call takes any.
-    pub fn new(alloc: Global, geometry: &Geometry, settings: &Settings) -> Result<Window, AllocError>
+    pub fn new(
+        alloc: Global,
+        geometry: &Geometry,
+        settings: &Settings,
+    ) -> Result<Window, AllocError>
         requires sound { IsSound geometry.now }
         requires checked { IsChecked settings.now (Some geometry.now.blocks) }
         ensures { IfOk result (λ window. window ≡ new_window settings.now) }
@@ -94,7 +98,11 @@ impl Window {
             return PutWhen::Busy;
         };
         let until = end + self.md5_time as u64;
-        if self.md5_time != 0 && until <= now { PutWhen::Now } else { PutWhen::Full(until) }
+        if self.md5_time != 0 && until <= now {
+            PutWhen::Now
+        } else {
+            PutWhen::Full(until)
+        }
     }
 
     /// When a put may begin of a block whose last put has this ending.
@@ -107,7 +115,11 @@ impl Window {
             None => PutWhen::Busy,
             Some(ending) => {
                 let until = ending.reading + self.min_write_delay as u64;
-                if now < until { PutWhen::At(until) } else { PutWhen::Now }
+                if now < until {
+                    PutWhen::At(until)
+                } else {
+                    PutWhen::Now
+                }
             }
         }
     }
@@ -118,12 +130,14 @@ impl Window {
         requires limit { now ≤ 2 ^ 62 }
         requires ready { put_when self.old block now ≡ Now }
         ensures begun { self.new ≡ begun self.old block now digest }
+        ensures open { self.new.md5_size ≢ 0 → IsTrue (is_open (map.get self.new.puts block)) }
         ensures fits { map.len self.new.puts ≤ self.new.md5_size }
     {
         self.reading = now;
         self.table.purge(self.md5_time, now);
         if self.table.room() != 0 {
-            self.table.set(block, LastPut { digest, ending: None });
+            let ending = None;
+            self.table.set(block, LastPut { digest, ending });
         }
     }
 

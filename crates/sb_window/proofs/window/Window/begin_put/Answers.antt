@@ -1,6 +1,6 @@
-use Rattle.std.proofs.Common.{◌≡◌, ◌≢◌, ap, ◌∙◌}
+use Rattle.std.proofs.Common.{◌≡◌, ◌≢◌, refl, ap, ◌∙◌}
 use Rattle.sb_window.specs.Tables.{Table}
-use Rattle.sb_window.proofs.WindowLemmas.{window, purged_shape, begun_shape, fits_begun}
+use Rattle.sb_window.proofs.WindowLemmas.{window, purged_shape, begun_shape, fits_begun, set_open}
 use Rattle.sb_window.proofs.window.Window.begin_put.Goals as goal
 
 pub set-requires : goal.set-requires
@@ -32,3 +32,6 @@ returns-then-room-ne0-clause-fits c = (invariant_of-self c).fits
 
 pub returns-else-room-ne0-clause-fits : goal.returns-else-room-ne0-clause-fits
 returns-else-room-ne0-clause-fits c = (invariant_of-self-else-room-ne0 c).fits
+
+pub returns-then-room-ne0-clause-open : goal.returns-then-room-ne0-clause-open
+returns-then-room-ne0-clause-open c on = rw c.set.ensures (set_open c.purge.new.self.puts c.args.block _ refl)
