@@ -13,7 +13,7 @@ use Rattle.sb_window.specs.LastPuts.{end_of, is_end_kept, is_kept, earlier, earl
 use Rattle.sb_window.proofs.RowLemmas.{filter_short, absent_below, sorted_head, sorted_tail}
 
 -- the earlier of two ends is kept where both are
-kept_earlier : (time now : ℕ) (end other : Option ℕ) → is_end_kept time now (earlier end other) ≡ (is_end_kept time now end && is_end_kept time now other)
+pub kept_earlier : (time now : ℕ) (end other : Option ℕ) → is_end_kept time now (earlier end other) ≡ (is_end_kept time now end && is_end_kept time now other)
 kept_earlier time now None other = refl
 kept_earlier time now (Some end) None = grind (arith, nat_tests)
 kept_earlier time now (Some end) (Some other) = grind (arith, nat_tests)

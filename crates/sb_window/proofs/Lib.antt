@@ -2,3 +2,4 @@ pub mod RowLemmas
 pub mod KeptLemmas
 pub mod WindowLemmas
 pub mod TableLemmas
+pub mod EventLemmas

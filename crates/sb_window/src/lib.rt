@@ -12,10 +12,15 @@
 #![tactic(auto)]
 
 mod last_put;
+mod laws;
 mod table;
 mod window;
 
 pub use last_put::{Ending, LastPut};
+pub use laws::{
+    begin_represents, end_represents, expects_the_last_put, new_represents, purge_represents,
+    puts_are_spaced, waits_lie_ahead,
+};
 pub use window::{PutWhen, Window};
 
 #[cfg(test)]
