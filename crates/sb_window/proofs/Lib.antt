@@ -3,3 +3,4 @@ pub mod KeptLemmas
 pub mod WindowLemmas
 pub mod TableLemmas
 pub mod EventLemmas
+pub mod CountLemmas

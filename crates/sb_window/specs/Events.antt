@@ -1,6 +1,6 @@
 -- Begun and ended puts, and the window that goes with them.
-use Rattle.std.specs.Prelude.{ℕ, ◌≡◌, ◌≢◌, ◌<◌, ◌≤◌, ◌+◌, ◌⊎◌, Bool, nat_eq, if◌then◌else◌, List, [], ◌∷◌, Option, Some, None, IsTrue}
-use Rattle.std.specs.FinMap.{get}
+use Rattle.std.specs.Prelude.{ℕ, zero, suc, ◌≡◌, ◌≢◌, ◌<◌, ◌≤◌, ◌+◌, ◌⊎◌, Bool, nat_eq, if◌then◌else◌, List, [], ◌∷◌, Option, Some, None, is_some, IsTrue}
+use Rattle.std.specs.FinMap.{get, len}
 use Rattle.sb_base.specs.declared.settings.Settings.{Settings}
 use Rattle.sb_window.specs.declared.last_put.Ending.{Ending}
 use Rattle.sb_window.specs.declared.last_put.LastPut.{LastPut}
@@ -40,7 +40,8 @@ NewRepresents = (settings : Settings) → Represents (new_window settings) []
 abbrev pub BeginRepresents : Type 0
 BeginRepresents =
     (window : WindowState) (past : List PutEvent) (block now : ℕ) (digest : List ℕ) → window.md5_size ≢ 0
-    → window.reading ≤ now → Represents window past → Represents (begun window block now digest) (Begin block digest ∷ past)
+    → window.reading ≤ now → Represents window past
+    → Represents (begun window block now digest) (Begin block digest ∷ past)
 
 abbrev pub EndRepresents : Type 0
 EndRepresents =
@@ -75,6 +76,18 @@ PutsAreSpaced =
     (window : WindowState) (past : List PutEvent) (block now : ℕ) → window.md5_size ≢ 0 → window.reading ≤ now
     → (window.md5_time ≢ 0 → window.min_write_delay ≤ window.md5_time) → Represents window past
     → put_when window block now ≡ Now → IsSpaced window.min_write_delay now (last_put_of past block)
+
+-- how many of the first n blocks pass a test
+abbrev pub count : (ℕ → Bool) → ℕ → ℕ
+count test zero = 0
+count test (suc n) = if test n then 1 + count test n else count test n
+
+-- the window has an entry for each block whose last put is kept, and so there are at most as many
+abbrev pub PutsFit : Type 0
+PutsFit =
+    (window : WindowState) (past : List PutEvent) (now blocks : ℕ) → window.reading ≤ now
+    → len window.puts ≤ window.md5_size → Represents window past
+    → count (λ block. is_some (if_kept window.md5_time now (last_put_of past block))) blocks ≤ window.md5_size
 
 -- what is waited for lies ahead, where puts are not kept for ever
 abbrev pub LiesAhead : ℕ → PutWhen → Type 0

@@ -15,7 +15,7 @@ abbrev pub end_of : Option Ending → Option ℕ
 end_of None = None
 end_of (Some ending) = Some ending.reading
 
--- what ended then is kept at a reading: for a time after its end, or for ever where that is 0, and while it has not ended
+-- what ended then is kept at a reading: while it has not ended, and for a time after that, or for ever where that is 0
 abbrev pub is_end_kept : ℕ → ℕ → Option ℕ → Bool
 is_end_kept time now None = true
 is_end_kept time now (Some end) = nat_eq time 0 || nat_lt now (end + time)

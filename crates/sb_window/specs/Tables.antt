@@ -16,11 +16,13 @@ pub record Table : Type 0 where
 -- each of these is stored as the tuple of its parts
 abbrev pub ending_code : Coded Ending
 ending_code =
-    code_by (ℕ × Bool) (coded× coded_ℕ coded_bool) (λ e. (e.reading, e.ok)) (λ p. record { reading = p.0; ok = p.1 }) (λ _. refl)
+    code_by (ℕ × Bool) (coded× coded_ℕ coded_bool) (λ e. (e.reading, e.ok)) (λ p. record { reading = p.0; ok = p.1 })
+    (λ _. refl)
 
 abbrev pub last_put_code : Coded LastPut
 last_put_code =
-    code_by (List ℕ × Option Ending) (coded× (coded_list coded_ℕ) (coded_option ending_code)) (λ e. (e.digest, e.ending))
+    code_by (List ℕ × Option Ending) (coded× (coded_list coded_ℕ) (coded_option ending_code))
+    (λ e. (e.digest, e.ending))
     (λ p. record { digest = p.0; ending = p.1 }) (λ _. refl)
 
 abbrev pub puts_code : Coded LastPuts
@@ -28,7 +30,8 @@ puts_code = map.code coded_ℕ last_put_code
 
 abbrev pub table_code : Coded Table
 table_code =
-    code_by (ℕ × LastPuts) (coded× coded_ℕ puts_code) (λ t. (t.room, t.puts)) (λ p. record { room = p.0; puts = p.1 }) (λ _. refl)
+    code_by (ℕ × LastPuts) (coded× coded_ℕ puts_code) (λ t. (t.room, t.puts)) (λ p. record { room = p.0; puts = p.1 })
+    (λ _. refl)
 
 -- rows by rising blocks, at most so many
 pub record IsTable (room : ℕ) (rows : List (ℕ × LastPut)) : Type 0 where

@@ -1,5 +1,5 @@
 -- The MD5 window: when a put may begin, and which digest a GET has to show.
-use Rattle.std.specs.Prelude.{ℕ, ◌≡◌, ◌≢◌, ◌≤◌, ◌+◌, ◌^◌, Bool, true, false, ◌&&◌, nat_eq, nat_lt, if◌then◌else◌, List, Option, Some, None, refl}
+use Rattle.std.specs.Prelude.{ℕ, ◌≤◌, ◌+◌, ◌^◌, Bool, true, false, ◌&&◌, nat_eq, nat_lt, if◌then◌else◌, List, Option, Some, None, refl}
 use Rattle.std.specs.Coded.{Coded, code_by, coded×, coded_ℕ}
 use Rattle.std.specs.FinMap.{get, len, entries, insert, empty}
 use Rattle.sb_base.specs.declared.line.Expect.{Expect}
@@ -19,6 +19,16 @@ pub record WindowState : Type 0 where
   pub reading : ℕ
   pub puts : LastPuts
 
+-- a window of these settings, at a reading, with what its table has
+abbrev pub window_of : ℕ → ℕ → ℕ → Table → WindowState
+window_of delay time reading table = record {
+  min_write_delay = delay;
+  md5_time = time;
+  md5_size = table.room;
+  reading = reading;
+  puts = table.puts;
+}
+
 -- what is true of a window's reading and puts
 pub record IsWindow (reading : ℕ) (table : Table) : Type 0 where
   pub limit : reading ≤ 2 ^ 62
@@ -28,7 +38,8 @@ pub record IsWindow (reading : ℕ) (table : Table) : Type 0 where
 -- a window is stored as the tuple of its parts
 abbrev pub window_code : Coded WindowState
 window_code =
-    code_by (ℕ × (ℕ × (ℕ × (ℕ × LastPuts)))) (coded× coded_ℕ (coded× coded_ℕ (coded× coded_ℕ (coded× coded_ℕ puts_code))))
+    code_by (ℕ × (ℕ × (ℕ × (ℕ × LastPuts))))
+    (coded× coded_ℕ (coded× coded_ℕ (coded× coded_ℕ (coded× coded_ℕ puts_code))))
     (λ w. (w.min_write_delay, (w.md5_time, (w.md5_size, (w.reading, w.puts)))))
     (λ p. record { min_write_delay = p.0; md5_time = p.1.0; md5_size = p.1.1.0; reading = p.1.1.1.0; puts = p.1.1.1.1 })
     (λ _. refl)
@@ -47,7 +58,7 @@ new_window settings = record {
 abbrev pub when_spaced : ℕ → ℕ → PutWhen
 when_spaced until now = if nat_lt now until then At until else Now
 
--- after an open put once it has ended, and after an ended one once the spacing since its end is over, whether it was ok or not
+-- after an open put once it has ended, and after an ended one, ok or not, once the spacing since its end is over
 abbrev pub when_after : WindowState → ℕ → Option Ending → PutWhen
 when_after window now None = Busy
 when_after window now (Some ending) = when_spaced (ending.reading + window.min_write_delay) now
@@ -110,7 +121,8 @@ ended window block now ok =
 abbrev pub expected_after : ℕ → ℕ → List ℕ → Option Ending → Option Expect
 expected_after time now digest None = None
 expected_after time now digest (Some ending) =
-    if ending.ok && is_end_kept time now (Some ending.reading) then Some (record { digest = digest; since = ending.reading }) else None
+    if ending.ok && is_end_kept time now (Some ending.reading) then Some
+    (record { digest = digest; since = ending.reading }) else None
 
 abbrev pub expected_by : ℕ → ℕ → Option LastPut → Option Expect
 expected_by time now None = None

@@ -1,6 +1,6 @@
 //! The laws of a window. Each function does nothing; its contract is the law.
 
-ghost use Rattle.sb_window.specs.Events.{NewRepresents, BeginRepresents, EndRepresents, PurgeRepresents, ExpectsTheLastPut, PutsAreSpaced, WaitsLieAhead};
+ghost use Rattle.sb_window.specs.Events.{NewRepresents, BeginRepresents, EndRepresents, PurgeRepresents, ExpectsTheLastPut, PutsAreSpaced, PutsFit, WaitsLieAhead};
 
 /// A new window goes with no event.
 pub fn new_represents()
@@ -30,6 +30,11 @@ pub fn expects_the_last_put()
 /// A put that may begin is spaced from the end of the last one of its block, ok or not.
 pub fn puts_are_spaced()
     ensures { PutsAreSpaced }
+{}
+
+/// At most as many blocks have a last put that is kept as the window has entries.
+pub fn puts_fit()
+    ensures { PutsFit }
 {}
 
 /// A put that may not begin yet is to be tried again at a later reading.

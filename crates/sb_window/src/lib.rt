@@ -1,5 +1,5 @@
-//! The MD5 window: the last put of each block, from which it is told when the block's next put may begin, and which digest
-//! a GET of it has to show.
+//! The MD5 window: the last put of each block. It tells when the block's next put may begin, and which digest a GET of
+//! it has to show.
 //!
 //! A block's entry, and the call that makes each move:
 //!
@@ -19,7 +19,7 @@ mod window;
 pub use last_put::{Ending, LastPut};
 pub use laws::{
     begin_represents, end_represents, expects_the_last_put, new_represents, purge_represents,
-    puts_are_spaced, waits_lie_ahead,
+    puts_are_spaced, puts_fit, waits_lie_ahead,
 };
 pub use window::{PutWhen, Window};
 

@@ -26,8 +26,8 @@ pub enum PutWhen {
     Full(u64),
 }
 
-/// The last puts of a disk's blocks: each one at least until `md5_time` after its end, and at most `md5_size` of them. A
-/// window of size 0 is off.
+/// The last puts of a disk's blocks: each one at least until `md5_time` after its end, and at most `md5_size` of them.
+/// A window of size 0 is off.
 #[derive(Drop)]
 pub struct Window {
     min_write_delay: u32,
@@ -38,13 +38,13 @@ pub struct Window {
 }
 
 impl Model for Window {
-    ghost use Rattle.sb_window.specs.Windows.{WindowState, window_code, IsWindow};
+    ghost use Rattle.sb_window.specs.Windows.{WindowState, window_code, window_of, IsWindow};
 
     ghost Value = { WindowState };
 
     ghost coded = { window_code };
 
-    ghost view = { λ w. record { min_write_delay = w.min_write_delay; md5_time = w.md5_time; md5_size = w.table.room; reading = w.reading; puts = w.table.puts } };
+    ghost view = { λ w. window_of w.min_write_delay w.md5_time w.reading w.table };
 
     ghost invariant = { λ w. IsWindow w.reading w.table };
 }
@@ -70,9 +70,9 @@ impl Window {
 
     /// When a put of the block may begin.
     ///
-    /// `Busy` where its last put is open. `At` where its last put ended, ok or not, less than `min_write_delay` ago. Where
-    /// it has none, and the window no room but for those that are kept: `Full`, with the reading at which the first of
-    /// these is past its time, or `Busy` where none of them has ended. `Now` in each other case, and where the window is off.
+    /// `Busy` where its last put is open. `At` where that ended, ok or not, less than `min_write_delay` ago. Where it
+    /// has none, and those that are kept leave no room: `Full`, with the reading at which the first of these is past
+    /// its time, or `Busy` where none of them has ended. `Now` in each other case, and where the window is off.
     pub fn may_put(&self, block: u32, now: u64) -> PutWhen
         requires reading { self.now.reading ≤ now }
         requires limit { now ≤ 2 ^ 62 }
@@ -155,8 +155,8 @@ impl Window {
         }
     }
 
-    /// The digest that a GET of the block has to show, and since when: that of its last put, where that ended ok, less than
-    /// `md5_time` ago, or that is 0.
+    /// The digest that a GET of the block has to show, and since when: that of its last put, where that ended ok, less
+    /// than `md5_time` ago, or that is 0.
     pub fn expected(&self, block: u32, now: u64) -> Option<Expect>
         requires reading { self.now.reading ≤ now }
         requires limit { now ≤ 2 ^ 62 }

@@ -1,4 +1,4 @@
-use Rattle.std.proofs.Common.{◌≡◌, ap}
+use Rattle.std.proofs.Common.{ap}
 use Rattle.sb_window.specs.Tables.{Table}
 use Rattle.sb_window.proofs.TableLemmas.{get_rows}
 use Rattle.sb_window.proofs.table.PutTable.get.Goals as goal

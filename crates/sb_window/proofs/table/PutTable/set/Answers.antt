@@ -1,8 +1,7 @@
-use Rattle.std.proofs.Common.{◌≡◌, ap, sym, subst, ◌∙◌, arith, length}
-use Rattle.std.specs.List.{insert}
+use Rattle.std.proofs.Common.{sym, subst, arith}
 use Rattle.std.proofs.lemmas.List.Edits.{length-insert}
 use Rattle.sb_window.specs.Tables.{IsTable}
-use Rattle.sb_window.proofs.TableLemmas.{table, set_table, set_view}
+use Rattle.sb_window.proofs.TableLemmas.{set_table, set_view}
 use Rattle.sb_window.proofs.table.PutTable.set.Goals as goal
 
 pub invariant_of-self : goal.invariant_of-self
@@ -23,8 +22,11 @@ invariant_of-self-in-Ok-insert c =
     let rows = c.self.inside.rows.items in
     let inserted = rw c.deref.ensures.value at (c.in-Err.ensures.absent.inserted c.args.put) in
     let fits = rw (← c.self.view_is) at c.requires.fits in
-    let shaped = set_table c.self.inside.room rows _ c.args.block c.args.put c.self.invariant.0 inserted fits in
-    (subst (IsTable c.self.inside.room) (sym c.in-Ok-insert.ensures.items) shaped, omega (arith, c.insert.ensures.capacity, c.self.invariant.1))
+    let shaped = set_table c.self.inside.room rows _ c.args.block c.args.put c.self.invariant.0 inserted fits in (
+      subst (IsTable c.self.inside.room) (sym c.in-Ok-insert.ensures.items) shaped,
+      omega
+          (arith, c.insert.ensures.capacity, c.self.invariant.1),
+    )
 
 pub returns-in-Ok-insert : goal.returns-in-Ok-insert
 returns-in-Ok-insert c =

@@ -1,6 +1,4 @@
-use Rattle.std.proofs.Common.{◌≡◌, sym, subst, ◌∙◌}
-use Rattle.std.specs.Prelude.{IfSome}
-use Rattle.sb_window.specs.LastPuts.{EndBy, end_of}
+use Rattle.std.proofs.Common.{sym, ◌∙◌}
 use Rattle.sb_window.proofs.KeptLemmas.{end_later}
 use Rattle.sb_window.proofs.WindowLemmas.{get_by}
 use Rattle.sb_window.proofs.window.Window.may_put.Goals as goal
