@@ -100,14 +100,14 @@ own_some : (held last : Option LastPut) (old : LastPut) → held ≡ Some old �
 own_some held last old is (inl none) = absurd (cc)
 own_some held last old is (inr same) = sym same ∙ is
 
+-- the last put of any block after that of one ended
 ended_key : (block b : ℕ) (past : List PutEvent) (old : LastPut) (ending : Ending) → last_put_of past block ≡ Some old
-    → cond (eqb block b) (Some (record old { ending = Some ending })) (last_put_of past b) ≡ last_put_of
-    (End block ending ∷ past) b
+    → cond (eqb block b) (Some (record old { ending = Some ending })) (last_put_of past b)
+    ≡ last_put_of (End block ending ∷ past) b
 ended_key block b past old ending is =
-    elim (eqb block b) as
-    (λ t. eqb block b ≡ t
-    → cond t (Some (record old { ending = Some ending })) (last_put_of past b) ≡ cond t
-    (end_put ending (last_put_of past b)) (last_put_of past b)) [
+    let put : LastPut = record old { ending = Some ending } in
+    let last = last_put_of past b in
+    elim (eqb block b) as (λ t. eqb block b ≡ t → cond t (Some put) last ≡ cond t (end_put ending last) last) [
       | true ↦ λ t.
           let same : block ≡ b = grind (arith, nat_tests) in
           sym (ap (end_put ending) (ap (last_put_of past) (sym same) ∙ is))

@@ -22,8 +22,7 @@ ending_code =
 abbrev pub last_put_code : Coded LastPut
 last_put_code =
     code_by (List ℕ × Option Ending) (coded× (coded_list coded_ℕ) (coded_option ending_code))
-    (λ e. (e.digest, e.ending))
-    (λ p. record { digest = p.0; ending = p.1 }) (λ _. refl)
+    (λ e. (e.digest, e.ending)) (λ p. record { digest = p.0; ending = p.1 }) (λ _. refl)
 
 abbrev pub puts_code : Coded LastPuts
 puts_code = map.code coded_ℕ last_put_code

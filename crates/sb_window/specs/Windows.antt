@@ -121,8 +121,8 @@ ended window block now ok =
 abbrev pub expected_after : ℕ → ℕ → List ℕ → Option Ending → Option Expect
 expected_after time now digest None = None
 expected_after time now digest (Some ending) =
-    if ending.ok && is_end_kept time now (Some ending.reading) then Some
-    (record { digest = digest; since = ending.reading }) else None
+    if ending.ok && is_end_kept time now (Some ending.reading)
+    then Some (record { digest = digest; since = ending.reading }) else None
 
 abbrev pub expected_by : ℕ → ℕ → Option LastPut → Option Expect
 expected_by time now None = None
