@@ -1,10 +1,10 @@
 //! Writes and flushes of the program in a world in memory, and of its disk.
 
-ghost use Rattle.std.specs.Prelude.{None};
+ghost use Rattle.std.specs.Prelude.{◌≢◌, ◌<◌, None};
 
 use crate::settings::SETTINGS;
 use crate::tests::{DISC, HANDSHAKE, OPENING, errors, joined, output, session};
-use sb_base::{Geometry, Kind, Line, parts};
+use sb_base::{Geometry, Kind, Line, Part};
 use sb_core::Core;
 use sb_crew::{Alone, Calls, Desk};
 use sb_fakes::{Failing, HandClock, PlainStore};
@@ -93,12 +93,12 @@ struct Kinds {
 }
 
 impl Kinds {
-    /// Adds an event, of a block below 10.
+    /// Adds an event, with the last digit of its block.
     fn note(&mut self, kind: &[u8], block: u32) {
         let _kind = self.text.extend_from_slice(kind);
         let _block = self
             .text
-            .extend_from_slice(&[b' ', b'0' + block as u8, b'\n']);
+            .extend_from_slice(&[b' ', b'0' + (block % 10) as u8, b'\n']);
     }
 }
 
@@ -139,9 +139,18 @@ fn a_write_over_a_border_puts_the_first_block_to_make_room(rt: HostRuntime) -> R
     };
     let mut disk = Alone::new(Core::new(alloc, geometry, SETTINGS)?, kinds);
     assert!(rt; disk.flush(&mut desk).is_ok());
-    for part in parts(&geometry, 2048, 4096) {
-        assert!(rt; disk.write(&mut desk, part, &[0x41; 2048]).is_ok());
-    }
+    let first = Part {
+        block: 0,
+        offset: 2048,
+        length: 2048,
+    };
+    let second = Part {
+        block: 1,
+        offset: 0,
+        length: 2048,
+    };
+    assert!(rt; disk.write(&mut desk, first, &[0x41; 2048]).is_ok());
+    assert!(rt; disk.write(&mut desk, second, &[0x42; 2048]).is_ok());
     let (_core, kinds) = disk.finish();
     let wanted =
         b"FlushBegin 0\nFlushDone 0\nGetBegin 0\nGetEnd 0\nWrite 0\nPutBegin 0\nPutEnd 0\nDropped 0\nGetBegin 1\nGetEnd 1\nWrite 1\n";
@@ -167,7 +176,12 @@ fn block_of(link: &mut Failing, name: &[u8]) -> Option<[u8; 4096]> {
 
 /// The error of a reply that stands at a place, `None` where there is none.
 fn error_at(output: &[u8], at: usize) -> Option<u8> {
-    output.get(at + 7).copied()
+    output.get(at..)?.get(7).copied()
+}
+
+/// Whether a block is what a write of 512 bytes left of zeros.
+fn is_small_write(block: &[u8; 4096]) -> bool {
+    block[..512].iter().all(|byte| *byte == 0x41) && block[512..].iter().all(|byte| *byte == 0)
 }
 
 #[test]
@@ -196,13 +210,16 @@ fn a_failed_call_loses_nothing_that_was_flushed(rt: HostRuntime) -> Result<(), F
                 Some(bench) => bench,
                 None => return Err(Fail::from("no bench was shut")),
             };
-            let small = block_of(&mut bench.links[0], b"00000000");
-            let whole = block_of(&mut bench.links[0], b"00000001");
+            let link = match bench.links.first_mut() {
+                Some(link) => link,
+                None => return Err(Fail::from("the bench has no link")),
+            };
+            let small = block_of(link, b"00000000");
+            let whole = block_of(link, b"00000001");
             assert!(rt; small.is_some() == (first == Some(0)));
             assert!(rt; whole.is_some() == (second == Some(0)));
             if let Some(small) = small {
-                assert!(rt; small[..512] == [0x41; 512]);
-                assert!(rt; small[512..].iter().all(|byte| *byte == 0));
+                assert!(rt; is_small_write(&small));
             }
             if let Some(whole) = whole {
                 assert!(rt; whole == [0x42; 4096]);
@@ -224,7 +241,10 @@ struct Numbers {
 
 impl Numbers {
     /// The next number below a limit, by Marsaglia's xorshift.
-    fn below(&mut self, limit: u64) -> u64 {
+    fn below(&mut self, limit: u64) -> u64
+        requires { limit ≢ 0 }
+        ensures { result < limit }
+    {
         self.state ^= self.state << 13;
         self.state ^= self.state >> 7;
         self.state ^= self.state << 17;
@@ -238,8 +258,7 @@ fn random_requests_get_the_replies_of_an_array(rt: HostRuntime) -> Result<(), Fa
     let mut numbers = Numbers {
         state: 88_172_645_463_325_252,
     };
-    let mut disk = Vec::new(alloc);
-    disk.resize(65_536, 0)?;
+    let mut disk = [0; 65_536];
     let mut asked = Vec::new(alloc);
     let mut wanted = Vec::new(alloc);
     wanted.extend_from_slice(HANDSHAKE)?;

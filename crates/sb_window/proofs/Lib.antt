@@ -1,0 +1,6 @@
+pub mod RowLemmas
+pub mod KeptLemmas
+pub mod WindowLemmas
+pub mod TableLemmas
+pub mod EventLemmas
+pub mod CountLemmas

@@ -1,0 +1,4 @@
+pub mod LastPuts
+pub mod Tables
+pub mod Windows
+pub mod Events

@@ -1,0 +1,50 @@
+-- A table of last puts as contracts see it.
+use Rattle.std.specs.Prelude.{ℕ, ◌≡◌, ◌<◌, ◌≤◌, Bool, List, Option, Some, None, IsTrue, length, slice_index_or, slice_set, refl}
+use Rattle.std.specs.List.{insert}
+use Rattle.std.specs.Coded.{Coded, code_by, coded×, coded_ℕ, coded_bool, coded_list, coded_option}
+use Rattle.std.specs.Ordering.{nat_cmp}
+use Rattle.std.specs.FinMap as map
+use Rattle.sb_window.specs.declared.last_put.Ending.{Ending}
+use Rattle.sb_window.specs.declared.last_put.LastPut.{LastPut}
+use Rattle.sb_window.specs.LastPuts.{LastPuts}
+
+-- room for the last puts of so many blocks, and these
+pub record Table : Type 0 where
+  pub room : ℕ
+  pub puts : LastPuts
+
+-- each of these is stored as the tuple of its parts
+abbrev pub ending_code : Coded Ending
+ending_code =
+    code_by (ℕ × Bool) (coded× coded_ℕ coded_bool) (λ e. (e.reading, e.ok)) (λ p. record { reading = p.0; ok = p.1 })
+    (λ _. refl)
+
+abbrev pub last_put_code : Coded LastPut
+last_put_code =
+    code_by (List ℕ × Option Ending) (coded× (coded_list coded_ℕ) (coded_option ending_code))
+    (λ e. (e.digest, e.ending)) (λ p. record { digest = p.0; ending = p.1 }) (λ _. refl)
+
+abbrev pub puts_code : Coded LastPuts
+puts_code = map.code coded_ℕ last_put_code
+
+abbrev pub table_code : Coded Table
+table_code =
+    code_by (ℕ × LastPuts) (coded× coded_ℕ puts_code) (λ t. (t.room, t.puts)) (λ p. record { room = p.0; puts = p.1 })
+    (λ _. refl)
+
+-- rows by rising blocks, at most so many
+pub record IsTable (room : ℕ) (rows : List (ℕ × LastPut)) : Type 0 where
+  pub rising : IsTrue (map.is_sorted nat_cmp rows)
+  pub fits : length rows ≤ room
+
+-- the block's row is at this place
+pub record IsRowOf (rows : List (ℕ × LastPut)) (block place : ℕ) : Type 0 where
+  pub in_range : place < length rows
+  pub found : (d : ℕ × LastPut) → map.find nat_cmp block rows ≡ Some (slice_index_or rows place d).1
+  pub written : (put : LastPut) → map.put nat_cmp block put rows ≡ slice_set rows place (block, put)
+
+-- no row is the block's, and it would be at this place
+pub record IsGapFor (rows : List (ℕ × LastPut)) (block place : ℕ) : Type 0 where
+  pub in_range : place ≤ length rows
+  pub absent : map.find nat_cmp block rows ≡ None
+  pub inserted : (put : LastPut) → map.put nat_cmp block put rows ≡ insert rows place (block, put)
