@@ -1,5 +1,6 @@
 -- From what a session did to what a run promises.
-use Rattle.std.proofs.Common.{ℕ, ◌≡◌, List, [], ◌∷◌, ◌++◌, Option, None, Result, Ok, Err, refl, sym, ◌∙◌, ap, subst, append-nil}
+use Rattle.std.proofs.Common.{ℕ, ◌≡◌, List, [], ◌∷◌, ◌++◌, Option, None, Result, Ok, Err, refl, sym, ◌∙◌, ap, subst}
+use Rattle.std.proofs.Common.{append-nil, ◌⊎◌}
 use Rattle.sb_base.specs.declared.geometry.Geometry.{Geometry}
 use Rattle.sb_base.specs.declared.settings.Settings.{Settings}
 use Rattle.sb_base.specs.declared.entry.Entry.{Entry}
@@ -24,17 +25,20 @@ use Rattle.sb_session.specs.declared.end.SessionEnd.{SessionEnd}
 use Rattle.sb_session.specs.declared.end.SessionEnd.TheVariants as end
 use Rattle.sb_session.specs.declared.alone.TheConstants.{TRANSMISSION_FLAGS}
 use Rattle.sb_session.specs.Sessions.{SessionTold}
+use Rattle.s3backer.proofs.Causes.{none_failed, ended_well}
 use Rattle.s3backer.specs.declared.settings.TheConstants.{SETTINGS}
 use Rattle.s3backer.specs.Fresh.{IsFresh}
 use Rattle.s3backer.specs.Headline.{IsHistory, IsSaved, ServesSession, run_status, run_line, ComplainsOf}
 
 -- what was done to a fresh core is a disk's history
-history_of : (geometry : Geometry) (core core' : Core) (tape tape' : Option (List Entry)) (log log' : Option (List Call))
-    (clock clock' : Option (List Tick)) (entries : List Entry) (calls : List Call)
+history_of : (geometry : Geometry) (core core' : Core) (tape tape' : Option (List Entry))
+    (log log' : Option (List Call))
+    (faults faults' : ℕ) (clock clock' : Option (List Tick)) (entries : List Entry) (calls : List Call)
     → UnwindowedIsLegal → UnwindowedFlushes → UnwindowedSurvivesCrash → IsFresh geometry core
-    → Did core core' tape tape' log log' clock clock' entries calls
+    → Did core core' tape tape' log log' faults faults' clock clock' entries calls
     → IsHistory geometry tape tape' log log' clock clock' entries calls
-history_of geometry core core' tape tape' log log' clock clock' entries calls legal flushes survives fresh did =
+history_of geometry core core' tape tape' log log' faults faults' clock clock' entries calls legal flushes survives
+    fresh did =
     let after = subst (λ (past : List Entry). Represents core' past) (append-nil entries)
     (did.runs.history [] tt fresh.represents) in
     let shape : core'.geometry ≡ geometry = did.runs.base.geometry ∙ fresh.geometry_is in
@@ -46,32 +50,60 @@ history_of geometry core core' tape tape' log log' clock clock' entries calls le
     record {
       of_pass = did.runs.of_pass;
       tape = did.runs.told;
-      asked = did.asked;
+      asked = did.asked.gained;
       requests = rw fresh.geometry_is at did.requests;
       readings = did.runs.ticks;
       clock = did.runs.readings;
-      trace = subst (λ (s : Settings). ClockTrace geometry s only_caller [] entries None did.runs.ticks) fresh.settings_is
+      trace = subst (λ
+          (s : Settings). ClockTrace geometry s only_caller [] entries None did.runs.ticks) fresh.settings_is
           (subst (λ (g : Geometry). ClockTrace g core.settings only_caller [] entries None did.runs.ticks)
           fresh.geometry_is (did.runs.trace [] tt fresh.represents));
       rules = rules;
       policy = policy;
       legal = λ start sized latest. legal geometry SETTINGS nothing_found start entries
-          (record { sized = sized; off = refl; nothing = λ block. refl; rules = rules; policy = policy; latest = latest });
+          (record {
+            sized = sized;
+            off = refl;
+            nothing = λ block. refl;
+            rules = rules;
+            policy = policy;
+            latest = latest;
+          });
       durable = λ start sized latest. flushes geometry SETTINGS nothing_found start entries
-          (record { sized = sized; off = refl; nothing = λ block. refl; rules = rules; policy = policy; latest = latest });
+          (record {
+            sized = sized;
+            off = refl;
+            nothing = λ block. refl;
+            rules = rules;
+            policy = policy;
+            latest = latest;
+          });
       survives = λ start sized latest. survives geometry SETTINGS nothing_found start entries
-          (record { sized = sized; off = refl; nothing = λ block. refl; rules = rules; policy = policy; latest = latest });
+          (record {
+            sized = sized;
+            off = refl;
+            nothing = λ block. refl;
+            rules = rules;
+            policy = policy;
+            latest = latest;
+          });
     }
 
 -- a flush that ended well, and the entries before it
-saved_by : (flushed : Result Unit CallFault) (flush session : List Entry) (calls : List Call) → FlushEnds flushed flush calls
+saved_by : (flushed : Result Unit CallFault) (flush session : List Entry) (calls : List Call)
+    → FlushEnds flushed flush calls
     → flushed ≡ Ok tt → IsSaved (flush ++ session)
-saved_by (Ok done) flush session calls ends is =
-    (ends.0, outcomes_of session, outcomes_join flush session ∙ ap (λ (os : List Outcome). os ++ outcomes_of session) ends.1)
+saved_by (Ok done) flush session calls ends is = (
+  ends.0,
+  outcomes_of session,
+  outcomes_join flush session
+      ∙ ap (λ (os : List Outcome). os ++ outcomes_of session) ends.1,
+)
 saved_by (Err fault) flush session calls ends is = absurd (cc)
 
 -- status 0 comes only with a flush that ended well
-flushed_at_zero : (ended : SessionEnd) (flushed : Result Unit CallFault) → run_status ended flushed ≡ 0 → flushed ≡ Ok tt
+flushed_at_zero : (ended : SessionEnd) (flushed : Result Unit CallFault) → run_status ended flushed ≡ 0
+    → flushed ≡ Ok tt
 flushed_at_zero end.Disconnected (Ok done) zero = refl
 flushed_at_zero end.Ended (Ok done) zero = refl
 flushed_at_zero end.Disconnected (Err (StoreFault status)) zero = absurd (cc)
@@ -84,22 +116,27 @@ flushed_at_zero end.WriteFault flushed zero = absurd (cc)
 flushed_at_zero end.Spent flushed zero = absurd (cc)
 
 -- a session over a fresh core and the flush after it are what a run promises
-pub session_serves : {L C R S : Type 0} (log : L → Option (List Call)) (ticks : C → Option (List Tick))
+pub session_serves : {L C R S : Type 0} (log : L → Option (List Call)) (link_faults : L → ℕ) (ticks : C
+    → Option (List Tick))
     (left : R → Option (List ℕ)) (read_faults : R → ℕ) (held : S → Option (List ℕ)) (write_faults : S → ℕ)
     (geometry : Geometry) (core mid core' : Core) (link link1 link' : L) (clock clock1 clock' : C) (input input' : R)
     (output output' errors errors' : S) (tape tape1 tape' : Option (List Entry)) (ended : SessionEnd)
     (flushed : Result Unit CallFault) (status : ℕ)
     → UnwindowedIsLegal → UnwindowedFlushes → UnwindowedSurvivesCrash → IsFresh geometry core
     → SessionTold geometry TRANSMISSION_FLAGS (left input) (left input') (held output) (held output')
-    (Did core mid tape tape1 (log link) (log link1) (ticks clock) (ticks clock1)) ended
+    (Did core mid tape tape1 (log link) (log link1) (link_faults link) (link_faults link1) (ticks clock) (ticks clock1))
+    ended
     → CountsFaults (read_faults input) (read_faults input') (ended ≡ end.ReadFault)
     → CountsFaults (write_faults output) (write_faults output') (ended ≡ end.WriteFault)
-    → FlushDoes (Did mid core' tape1 tape' (log link1) (log link') (ticks clock1) (ticks clock')) flushed
+    → FlushDoes (Did mid core' tape1 tape' (log link1) (log link') (link_faults link1) (link_faults link')
+    (ticks clock1) (ticks clock')) flushed
     → status ≡ run_status ended flushed
     → ComplainsOf (run_line ended flushed) (held errors) (held errors') (write_faults errors) (write_faults errors')
-    → ServesSession log ticks left read_faults held write_faults geometry link link' clock clock' input input'
+    → ServesSession log link_faults ticks left read_faults held write_faults geometry link link' clock clock' input
+    input'
     output output' errors errors' tape tape' status
-session_serves log ticks left read_faults held write_faults geometry core mid core' link link1 link' clock clock1 clock'
+session_serves log link_faults ticks left read_faults held write_faults geometry core mid core' link link1 link' clock
+    clock1 clock'
     input input' output output' errors errors' tape tape1 tape' ended flushed status legal flushes survives fresh told
     read_cause write_cause flush status_is complains =
     let did = did_join (λ past fits. fits) told.done flush.done in
@@ -108,12 +145,14 @@ session_serves log ticks left read_faults held write_faults geometry core mid co
       calls = told.calls;
       flush_entries = flush.entries;
       flush_calls = flush.calls;
-      history = history_of geometry core core' tape tape' (log link) (log link') (ticks clock) (ticks clock')
+      history = history_of geometry core core' tape tape' (log link) (log link') (link_faults link) (link_faults link')
+          (ticks clock) (ticks clock')
           (flush.entries ++ told.entries) (flush.calls ++ told.calls) legal flushes survives fresh did;
       ended = ended;
       course = told.course;
       read_cause = read_cause.rises;
       write_cause = write_cause.rises;
+      link_counts = did.asked.counted;
       flushed = flushed;
       flushes = flush.ends;
       flush_asks = flush.asks;
@@ -121,4 +160,11 @@ session_serves log ticks left read_faults held write_faults geometry core mid co
       complains = complains;
       saved = λ zero. saved_by flushed flush.entries told.entries flush.calls flush.ends
           (flushed_at_zero ended flushed (sym status_is ∙ zero));
+      no_failed_reply = λ quiet. none_failed told.course (link_faults link)
+          (link_faults link') flush.calls quiet did.asked.counted;
+      ends_well = λ quiet read written refused spent.
+          subst (λ (n : ℕ). (n ≡ 0) ⊎ (n ≡ 12)) (sym status_is)
+          (ended_well ended flushed flush.entries told.calls flush.calls (link_faults link)
+          (link_faults link') flush.ends quiet
+          did.asked.counted read_cause.rises write_cause.rises read written refused spent);
     }

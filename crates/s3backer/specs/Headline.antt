@@ -1,5 +1,6 @@
 -- What a run of the program promises, of one list of entries and one list of calls. Lists are newest first.
-use Rattle.std.specs.Prelude.{ℕ, Bool, ◌≡◌, ◌⊎◌, List, [], ◌∷◌, ◌++◌, Option, Some, None, IfSome, Result, Ok, Err, codes, decimal}
+use Rattle.std.specs.Prelude.{ℕ, Bool, ◌≡◌, ◌≢◌, ◌⊎◌, List, [], ◌∷◌, ◌++◌, Option, Some, None, IfSome, Result, Ok, Err}
+use Rattle.std.specs.Prelude.{codes, decimal}
 use Rattle.sb_base.specs.declared.geometry.Geometry.{Geometry}
 use Rattle.sb_base.specs.declared.entry.Entry.{Entry}
 use Rattle.sb_world.specs.Told.{Gains, Rose}
@@ -21,11 +22,15 @@ use Rattle.sb_crew.specs.Names.{block_name}
 use Rattle.sb_crew.specs.declared.calls.CallFault.{CallFault}
 use Rattle.sb_crew.specs.declared.calls.CallFault.TheVariants.{StoreFault, Memory}
 use Rattle.sb_crew.specs.Outcomes.{Outcome, outcomes_of, flush_of, FlushEnds, AsksOnly}
+use Rattle.sb_crew.specs.Counts.{Counts}
 use Rattle.sb_crew.specs.Runs.{only_caller, sizes_of}
 use Rattle.sb_session.specs.declared.end.SessionEnd.{SessionEnd}
 use Rattle.sb_session.specs.declared.end.SessionEnd.TheVariants as end
 use Rattle.sb_session.specs.declared.alone.TheConstants.{TRANSMISSION_FLAGS}
 use Rattle.sb_session.specs.Handshakes.{Unopened}
+use Rattle.std.proofs.Common.{inl, inr}
+use Rattle.std.specs.List.{AllByRecursion}
+use Rattle.sb_nbd.specs.declared.reply.TheConstants.{EIO}
 use Rattle.sb_session.specs.Sessions.{Served}
 use Rattle.s3backer.specs.declared.settings.TheConstants.{SETTINGS}
 use Rattle.s3backer.specs.Words.{IsTaken, IsRefused}
@@ -104,8 +109,16 @@ pub record IsHistory (geometry : Geometry) (told told' : Option (List Entry)) (l
   pub survives : (start : Start) → FillBlocks geometry.block_size start
       → IsStaleWithin geometry.block_size start at_once entries → IsCrashDurable start entries
 
+-- no reply of a session has the error of a store that failed
+abbrev pub NoneFailed : {geometry : Geometry} {transmission : ℕ} {before now held_before held_now : Option (List ℕ)}
+    {ended : SessionEnd} {entries : List Entry} {calls : List Call} {Unserved : Type 0}
+    → Unserved ⊎ Served geometry transmission before now held_before held_now ended entries calls → Type 0
+NoneFailed (inl unserved) = Unit {0}
+NoneFailed (inr served) = AllByRecursion (λ x. x.error ≢ EIO) served.transcript
+
 -- over any links, clocks, sources and sinks, by what they tell and their counts of faults
-module _ {L C R S : Type 0} (log : L → Option (List Call)) (ticks : C → Option (List Tick)) (left : R → Option (List ℕ))
+module _ {L C R S : Type 0} (log : L → Option (List Call)) (link_faults : L → ℕ) (ticks : C
+    → Option (List Tick)) (left : R → Option (List ℕ))
     (read_faults : R → ℕ) (held : S → Option (List ℕ)) (write_faults : S → ℕ) where
   -- a session was served and the disk flushed then: the history of both, the session's course over the bytes, how it and
   -- the flush ended, and what was told of that
@@ -125,6 +138,7 @@ module _ {L C R S : Type 0} (log : L → Option (List Call)) (ticks : C → Opti
         entries calls
     pub read_cause : ended ≡ end.ReadFault → Rose (read_faults input) (read_faults input')
     pub write_cause : ended ≡ end.WriteFault → Rose (write_faults output) (write_faults output')
+    pub link_counts : Counts (link_faults link) (link_faults link') (flush_calls ++ calls)
     pub flushed : Result Unit CallFault
     pub flushes : FlushEnds flushed flush_entries flush_calls
     pub flush_asks : AsksOnly [] flush_entries
@@ -132,6 +146,13 @@ module _ {L C R S : Type 0} (log : L → Option (List Call)) (ticks : C → Opti
     pub complains : ComplainsOf (run_line ended flushed)
         (held errors) (held errors') (write_faults errors) (write_faults errors')
     pub saved : status ≡ 0 → IsSaved (flush_entries ++ entries)
+    -- without a fault of the store no reply tells one
+    pub no_failed_reply : (Rose (link_faults link) (link_faults link') → ⊥) → NoneFailed course
+    -- without any fault, and of an input that isn't refused and isn't too long, the run ends well or lacks memory
+    pub ends_well : (Rose (link_faults link) (link_faults link') → ⊥)
+        → (Rose (read_faults input) (read_faults input') → ⊥)
+        → (Rose (write_faults output) (write_faults output') → ⊥) → ended ≢ end.Refused → ended ≢ end.Spent
+        → (status ≡ 0) ⊎ (status ≡ 12)
 
   -- want of memory came before the session: nothing was asked, read or written but the line that tells it
   pub record LacksMemory (link link' : L) (clock clock' : C) (input input' : R)
@@ -207,14 +228,17 @@ pub record LacksMemoryEarly (told told' : Option (List Entry)) (said said' : Opt
   pub says : Gains said said' (codes "s3backer: out of memory\n" ∷ [])
 
 -- over any links, clocks, sources and sinks, by what they tell and their counts of faults
-module _ {L C R S : Type 0} (log : L → Option (List Call)) (ticks : C → Option (List Tick)) (left : R → Option (List ℕ))
+module _ {L C R S : Type 0} (log : L → Option (List Call)) (link_faults : L → ℕ) (ticks : C
+    → Option (List Tick)) (left : R → Option (List ℕ))
     (read_faults : R → ℕ) (held : S → Option (List ℕ)) (write_faults : S → ℕ) where
   -- the words were taken, and the world's next bench served
   pub record ServesWords (words : List (List ℕ)) (next : Option (BenchParts L C R S)) (tells : Bool)
-      (last' : Option (BenchParts L C R S)) (told told' : Option (List Entry)) (said said' : Option (List (List ℕ))) (status : ℕ) : Type 0 where
+      (last' : Option (BenchParts L C R S)) (told told' : Option (List Entry)) (said said' : Option (List (List ℕ)))
+      (status : ℕ) : Type 0 where
     pub geometry : Geometry
     pub taken : IsTaken words geometry
-    pub runs : RunsBench log ticks left read_faults held write_faults geometry next tells last' told told' status
+    pub runs : RunsBench log link_faults ticks left read_faults held write_faults geometry next tells last' told told'
+        status
     pub quiet : said' ≡ said
 
   -- how a run ends

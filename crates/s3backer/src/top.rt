@@ -116,7 +116,7 @@ fn serve_disk<L: Link, C: Clock, R: Source, S: Sink, T: Tape>(
     requires sound { IsSound (geometry_of core) }
     requires fresh { IsFresh (geometry_of core) core }
     requires room { HasRoom (geometry_of core) desk }
-    ensures { ServesSession L.log C.ticks R.left R.faults S.held S.faults (geometry_of core) desk.link result.2 desk.clock result.3 input.old input.new output.old output.new errors.old errors.new (T.told tape) (T.told result.1) result.0 }
+    ensures { ServesSession L.log L.faults C.ticks R.left R.faults S.held S.faults (geometry_of core) desk.link result.2 desk.clock result.3 input.old input.new output.old output.new errors.old errors.new (T.told tape) (T.told result.1) result.0 }
 {
     unwindowed_is_legal();
     unwindowed_flushes();
@@ -142,7 +142,7 @@ fn serve_parts<L: Link + Drop, C: Clock + Drop, R: Source, S: Sink, T: Tape + Dr
     errors: &mut S,
 ) -> (u8, T, L, C)
     requires { IsSound geometry }
-    ensures { Serves L.log C.ticks R.left R.faults S.held S.faults geometry link result.2 clock result.3 input.old input.new output.old output.new errors.old errors.new (T.told tape) (T.told result.1) result.0 }
+    ensures { Serves L.log L.faults C.ticks R.left R.faults S.held S.faults geometry link result.2 clock result.3 input.old input.new output.old output.new errors.old errors.new (T.told tape) (T.told result.1) result.0 }
 {
     let (core, buffer) = match make(alloc, geometry) {
         Ok(made) => made,
@@ -170,7 +170,7 @@ fn serve_bench<L: Link + Drop, C: Clock + Drop, R: Source, S: Sink, T: Tape + Dr
 ) -> (u8, T, Bench<L, C, R, S>)
     requires sound { IsSound geometry }
     requires one { length bench.links ≡ 1 }
-    ensures { ServesBench L.log C.ticks R.left R.faults S.held S.faults geometry bench result.2 (T.told tape) (T.told result.1) result.0 }
+    ensures { ServesBench L.log L.faults C.ticks R.left R.faults S.held S.faults geometry bench result.2 (T.told tape) (T.told result.1) result.0 }
 {
     let Bench {
         mut links,
@@ -222,7 +222,7 @@ pub fn run<W: World, T: Tape + Drop>(
 where
     W::Link: Drop,
     W::Clock: Drop,
-    ensures { RunEnds W.Link.log W.Clock.ticks W.Source.left W.Source.faults W.Sink.held W.Sink.faults (map string_bytes words.now) (W.faults world.old) (W.faults world.new) (W.next world.old) (W.tells world.old) (W.last world.new) (T.told tape) (T.told result.tape) (W.said world.old) (W.said world.new) result.status }
+    ensures { RunEnds W.Link.log W.Link.faults W.Clock.ticks W.Source.left W.Source.faults W.Sink.held W.Sink.faults (map string_bytes words.now) (W.faults world.old) (W.faults world.new) (W.next world.old) (W.tells world.old) (W.last world.new) (T.told tape) (T.told result.tape) (W.said world.old) (W.said world.new) result.status }
 {
     let geometry = match plan(alloc, words) {
         Ok(geometry) => geometry,

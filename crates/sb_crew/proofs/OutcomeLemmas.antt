@@ -5,7 +5,8 @@ use Rattle.sb_base.specs.declared.part.Part.{Part}
 use Rattle.sb_base.specs.declared.entry.Entry.{Entry}
 use Rattle.sb_world.specs.declared.link.Call.{Call}
 use Rattle.sb_crew.specs.declared.calls.CallFault.{CallFault}
-use Rattle.sb_crew.specs.Outcomes.{outcomes_of, bytes_read, blocks_asked, outcome_of, bytes_of, asked_of, IsBlockOf, AsksOnly, HasCause}
+use Rattle.sb_crew.specs.Outcomes.{outcomes_of, bytes_read, blocks_asked, outcome_of, bytes_of, asked_of, IsBlockOf}
+use Rattle.sb_crew.specs.Outcomes.{AsksOnly, HasCause}
 
 -- the outcomes of two runs
 pub outcomes_join : (ys xs : List Entry) → outcomes_of (ys ++ xs) ≡ outcomes_of ys ++ outcomes_of xs
@@ -32,7 +33,8 @@ asked_join (y ∷ ys) xs =
     ∙ sym (append_assoc (asked_of y.kind) (blocks_asked ys) (blocks_asked xs))
 
 -- two runs that ask for no other blocks
-pub asks_join : (parts : List Part) (xs ys : List Entry) → AsksOnly parts xs → AsksOnly parts ys → AsksOnly parts (ys ++ xs)
+pub asks_join : (parts : List Part) (xs ys : List Entry) → AsksOnly parts xs → AsksOnly parts ys
+    → AsksOnly parts (ys ++ xs)
 asks_join parts xs ys first second =
     let P : List ℕ → Type 0 = λ bs. AllByRecursion (IsBlockOf parts) bs in
     record {

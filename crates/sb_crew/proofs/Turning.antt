@@ -1,5 +1,7 @@
 -- What a call did so far, after one turn more.
-use Rattle.std.proofs.Common.{ℕ, ◌≡◌, Bool, true, false, nat_eq, if◌then◌else◌, List, [], ◌∷◌, ◌++◌, Option, Some, None, Result, Ok, Err, IsSome, is_some, length, is_ok, is_none, refl, sym, ◌∙◌, ap, subst, ◌+◌, ◌-◌, ◌^◌, ◌≤◌, ◌⊎◌, inl, inr, arith}
+use Rattle.std.proofs.Common.{ℕ, ◌≡◌, Bool, true, false, nat_eq, if◌then◌else◌, List, [], ◌∷◌, ◌++◌, Option, Some, None}
+use Rattle.std.proofs.Common.{Result, Ok, Err, IsSome, is_some, length, is_ok, is_none, refl, sym, ◌∙◌, ap, subst, ◌+◌}
+use Rattle.std.proofs.Common.{◌-◌, ◌^◌, ◌≤◌, ◌⊎◌, inl, inr, arith}
 use mathlib.Core.Logic.{dite}
 use Rattle.std.proofs.Math.Decide.{dec_le}
 use Rattle.std.proofs.Math.Nat.{min-eq_left, min-eq_right, lt_of_not-le}
@@ -31,7 +33,8 @@ use Rattle.sb_crew.specs.Counts.{is_failure, Counts}
 use Rattle.sb_crew.specs.Names.{block_name}
 use Rattle.sb_crew.specs.Answers.{shown_for, fault_for, EndsAs}
 use Rattle.sb_crew.specs.Outcomes as outcome
-use Rattle.sb_crew.specs.Outcomes.{Outcome, outcomes_of, outcome_of, bytes_read, bytes_of, asked_of, blocks_asked, IsBlockOf, AsksOnly, HasCause, Does, FlushBegun}
+use Rattle.sb_crew.specs.Outcomes.{Outcome, outcomes_of, outcome_of, bytes_read, bytes_of, asked_of, blocks_asked}
+use Rattle.sb_crew.specs.Outcomes.{IsBlockOf, AsksOnly, HasCause, Does, FlushBegun}
 use Rattle.sb_crew.specs.Runs.{sizes_of, any_past, HasBegun, Runs, RunsWhere, Did, DidWhere}
 use Rattle.sb_crew.specs.Turns.{SoFar, FetchDoes, StoreDoes}
 use Rattle.sb_crew.specs.Joins.{asked_nothing, runs_join, did_join}
@@ -65,21 +68,24 @@ abbrev pub event : ℕ → EntryKind → Entry
 event reading of = record { pass = 1; reading = reading; kind = of }
 
 -- the entry of an event is another one, which it is equal to
-runs_of : {Is : List Entry → Type 0} {core core' : Core} {tape tape' : Option (List Entry)} {clock clock' : Option (List Tick)}
+runs_of : {Is : List Entry
+    → Type 0} {core core' : Core} {tape tape' : Option (List Entry)} {clock clock' : Option (List Tick)}
     {entry other : Entry} → entry ≡ other → RunsWhere Is core core' tape tape' clock clock' (entry ∷ [])
     → RunsWhere Is core core' tape tape' clock clock' (other ∷ [])
 runs_of {Is} {core} {core'} {tape} {tape'} {clock} {clock'} is runs =
     subst (λ (e : Entry). RunsWhere Is core core' tape tape' clock clock' (e ∷ [])) is runs
 
 -- the link's log says what the entry says
-replies_fit : (result : Result Got LinkFault) (bytes : List ℕ) → Replies (shown_for result bytes) (get_reply result bytes)
+replies_fit : (result : Result Got LinkFault) (bytes : List ℕ)
+    → Replies (shown_for result bytes) (get_reply result bytes)
 replies_fit (Ok got.Absent) bytes = refl
 replies_fit (Ok got.Bytes) bytes = refl
 replies_fit (Ok got.Same) bytes = refl
 replies_fit (Err fault) bytes = (fault, refl)
 
 -- a fault of the link is that of the call
-same_fault : (fault : LinkFault) (ended : CallFault) → ended ≡ fault_for fault → Some fault ≡ Some (outcome.link_fault ended)
+same_fault : (fault : LinkFault) (ended : CallFault) → ended ≡ fault_for fault
+    → Some fault ≡ Some (outcome.link_fault ended)
 same_fault (link.Failed status) ended is = ap (λ f. Some (outcome.link_fault f)) (sym is)
 same_fault link.Memory ended is = ap (λ f. Some (outcome.link_fault f)) (sym is)
 
@@ -108,7 +114,8 @@ put_fault true name meta content fault = refl
 put_fault false name meta content fault = refl
 
 -- the newest entry is a failure, and the newest call has its fault
-get_failed : (block : ℕ) (verify : Option (List ℕ)) (result : Result Got LinkFault) (bytes : List ℕ) (later : ℕ) (taken : Bool)
+get_failed : (block : ℕ) (verify : Option (List ℕ)) (result : Result Got LinkFault) (bytes : List ℕ) (later : ℕ)
+    (taken : Bool)
     (fault : CallFault) (before : List Entry) → EndsAs {U = Unit {0}} result (Err fault)
     → HasCause fault (event later (kind.GetEnd block (shown_for result bytes) verify taken) ∷ before)
     (call.Get (block_name block) verify (get_reply result bytes) ∷ [])
@@ -138,10 +145,12 @@ put_entries reading block content later sent =
     event later (kind.PutEnd block (is_ok sent)) ∷ event reading (kind.PutBegin block content) ∷ []
 
 abbrev pub put_calls : Meta → ℕ → List ℕ → Result Unit LinkFault → List Call
-put_calls sizes block content sent = put_call (block_name block) (meta_of (Some sizes) block) content (fault_of sent) ∷ []
+put_calls sizes block content sent = put_call (block_name block)
+    (meta_of (Some sizes) block) content (fault_of sent) ∷ []
 
 -- a GET asks for its block
-get_asks : (parts : List Part) (before : List Entry) (reading : ℕ) (job : GetJob) (later : ℕ) (result : Result Got LinkFault)
+get_asks : (parts : List Part) (before : List Entry) (reading : ℕ) (job : GetJob) (later : ℕ)
+    (result : Result Got LinkFault)
     (bytes : List ℕ) (taken : Bool) → AsksOnly parts before → IsBlockOf parts job.block
     → AsksOnly parts (get_entries reading job later result bytes taken ++ before)
 get_asks parts before reading job later result bytes taken asks same = record { asked = (same, asks.asked) }
@@ -152,7 +161,7 @@ rose_by_one before now rose =
     dite (dec_le (before + 1) (2 ^ 64 - 1))
     (λ low. inl (subst (λ (n : ℕ). n ≤ now) (min-eq_left low) rose))
     (λ high. let above = lt_of_not-le high in
-        inr (subst (λ (n : ℕ). n ≤ now) (min-eq_right {n = 2 ^ 64 - 1} {m = before + 1} (omega (arith, above))) rose))
+    inr (subst (λ (n : ℕ). n ≤ now) (min-eq_right {n = 2 ^ 64 - 1} {m = before + 1} (omega (arith, above))) rose))
 
 risen_by : {T : Type 0} (before now : ℕ) (result : Result T LinkFault) → CountsFaults before now (HasFailed result)
     → (before + ((if is_failure (fault_of result) then 1 else 0) + 0) ≤ now) ⊎ (2 ^ 64 - 1 ≤ now)
@@ -166,7 +175,7 @@ counts_so : {T : Type 0} (before now : ℕ) (result : Result T LinkFault) (asked
     → Counts before now (asked ∷ [])
 counts_so before now result asked is counts =
     let P : Option LinkFault → Type 0 = λ fault.
-        (before + ((if is_failure fault then 1 else 0) + 0) ≤ now) ⊎ (2 ^ 64 - 1 ≤ now) in
+    (before + ((if is_failure fault then 1 else 0) + 0) ≤ now) ⊎ (2 ^ 64 - 1 ≤ now) in
     record { later = counts.later; risen = subst P (sym is) (risen_by before now result counts) }
 
 -- the fault of a GET, and of a put
@@ -178,20 +187,24 @@ get_fault name verify (Ok got.Same) bytes = refl
 get_fault name verify (Err fault) bytes = refl
 
 -- what a run of events and calls did
-module _ {Then : List Entry → Type 0} {b c : Core} {tape1 tape2 : Option (List Entry)} {clock1 clock2 : Option (List Tick)} where
+module _ {Then : List Entry
+    → Type 0} {b c : Core} {tape1 tape2 : Option (List Entry)} {clock1 clock2 : Option (List Tick)} where
   -- an event that asked for nothing
-  event_does : {log1 : Option (List Call)} {faults1 : ℕ} {entry : Entry} (reading : ℕ) (of : EntryKind) → entry ≡ event reading of
+  event_does : {log1 : Option (List Call)} {faults1 : ℕ} {entry : Entry} (reading : ℕ) (of : EntryKind)
+      → entry ≡ event reading of
       → RequestLog block_name (Some (sizes_of (geometry_of b))) (event reading of ∷ []) []
       → RunsWhere Then b c tape1 tape2 clock1 clock2 (entry ∷ [])
       → DidWhere Then b c tape1 tape2 log1 log1 faults1 faults1 clock1 clock2 (event reading of ∷ []) []
   event_does {log1} {faults1} reading of is quiet runs =
       record { runs = runs_of is runs; asked = asked_nothing log1 faults1; requests = quiet }
 
-  get_does : {d : Core} {tape3 : Option (List Entry)} {log1 log3 : Option (List Call)} {faults1 faults3 : ℕ} {clock3 : Option (List Tick)}
+  get_does : {d : Core} {tape3 : Option (List Entry)} {log1 log3 : Option (List Call)} {faults1 faults3 : ℕ}
+      {clock3 : Option (List Tick)}
       {entry : Entry} {ended : Result Unit CallFault} (reading : ℕ) (job : GetJob)
       → entry ≡ event reading (kind.GetBegin job.block job.expect job.verify)
       → RunsWhere Then b c tape1 tape2 clock1 clock2 (entry ∷ [])
-      → (fetched : FetchDoes (Runs c d tape2 tape3 clock2 clock3) (Gains log1 log3) (CountsFaults faults1 faults3) job.block job.verify ended)
+      → (fetched : FetchDoes (Runs c d tape2 tape3 clock2 clock3) (Gains log1 log3)
+      (CountsFaults faults1 faults3) job.block job.verify ended)
       → DidWhere Then b d tape1 tape3 log1 log3 faults1 faults3 clock1 clock3
       (get_entries reading job fetched.answer.reading fetched.got fetched.bytes fetched.answer.taken)
       (get_calls job fetched.got fetched.bytes)
@@ -199,19 +212,23 @@ module _ {Then : List Entry → Type 0} {b c : Core} {tape1 tape2 : Option (List
     runs = runs_join (λ past fits. tt) (runs_of is runs) fetched.answer.ran;
     asked = record {
       gained = fetched.called;
-      counted = counts_so faults1 faults3 fetched.got (call.Get (block_name job.block) job.verify (get_reply fetched.got fetched.bytes))
+      counted = counts_so faults1 faults3 fetched.got (call.Get (block_name job.block) job.verify
+          (get_reply fetched.got fetched.bytes))
           (get_fault (block_name job.block) job.verify fetched.got fetched.bytes) fetched.counted;
     };
     requests =
         (get_reply fetched.got fetched.bytes, [], refl, replies_fit fetched.got fetched.bytes, refl);
   }
 
-  put_does : {d : Core} {tape3 : Option (List Entry)} {log1 log3 : Option (List Call)} {faults1 faults3 : ℕ} {clock3 : Option (List Tick)}
+  put_does : {d : Core} {tape3 : Option (List Entry)} {log1 log3 : Option (List Call)} {faults1 faults3 : ℕ}
+      {clock3 : Option (List Tick)}
       {entry : Entry} {ended : Result Unit CallFault} (reading block : ℕ) (content : List ℕ)
       → entry ≡ event reading (kind.PutBegin block content)
       → RunsWhere Then b c tape1 tape2 clock1 clock2 (entry ∷ [])
-      → (stored : StoreDoes (Runs c d tape2 tape3 clock2 clock3) (Gains log1 log3) (CountsFaults faults1 faults3) (sizes_of (geometry_of b)) block content ended)
-      → DidWhere Then b d tape1 tape3 log1 log3 faults1 faults3 clock1 clock3 (put_entries reading block content stored.reading stored.sent)
+      → (stored : StoreDoes (Runs c d tape2 tape3 clock2 clock3) (Gains log1 log3) (CountsFaults faults1 faults3)
+      (sizes_of (geometry_of b)) block content ended)
+      → DidWhere Then b d tape1 tape3 log1 log3 faults1 faults3 clock1 clock3
+      (put_entries reading block content stored.reading stored.sent)
       (put_calls (sizes_of (geometry_of b)) block content stored.sent)
   put_does {faults1 = faults1} {faults3 = faults3} reading block content is runs stored = record {
     runs = runs_join (λ past fits. tt) (runs_of is runs) stored.ran;
@@ -219,7 +236,8 @@ module _ {Then : List Entry → Type 0} {b c : Core} {tape1 tape2 : Option (List
       gained = stored.called;
       counted = counts_so faults1 faults3 stored.sent
           (put_call (block_name block) (meta_of (Some (sizes_of (geometry_of b))) block) content (fault_of stored.sent))
-          (put_fault (is_zeros content) (block_name block) (meta_of (Some (sizes_of (geometry_of b))) block) content (fault_of stored.sent))
+          (put_fault (is_zeros content) (block_name block)
+          (meta_of (Some (sizes_of (geometry_of b))) block) content (fault_of stored.sent))
           stored.counted;
     };
     requests = put_asked (sizes_of (geometry_of b)) block content stored.sent reading stored.reading;
@@ -228,8 +246,10 @@ module _ {Then : List Entry → Type 0} {b c : Core} {tape1 tape2 : Option (List
 -- what a call did so far, and then what these entries and calls of the link say
 module _ {Then : List Entry → Type 0} {met : List Outcome} {a b : Core} {tape tape1 : Option (List Entry)}
     {log log1 : Option (List Call)} {faults faults1 : ℕ} {clock clock1 : Option (List Tick)} {parts : List Part} where
-  did_more : {c : Core} {tape2 : Option (List Entry)} {log2 : Option (List Call)} {faults2 : ℕ} {clock2 : Option (List Tick)}
-      {ys : List Entry} {vs : List Call} (before : SoFar Then met a b tape tape1 log log1 faults faults1 clock clock1 parts)
+  did_more : {c : Core} {tape2 : Option (List Entry)} {log2 : Option (List Call)} {faults2 : ℕ}
+      {clock2 : Option (List Tick)}
+      {ys : List Entry}
+      {vs : List Call} (before : SoFar Then met a b tape tape1 log log1 faults faults1 clock clock1 parts)
       → DidWhere Then b c tape1 tape2 log1 log2 faults1 faults2 clock1 clock2 ys vs
       → Did a c tape tape2 log log2 faults faults2 clock clock2 (ys ++ before.entries) (vs ++ before.calls)
   did_more before more = did_join (λ past fits. before.leads past) before.done more
@@ -238,7 +258,8 @@ module _ {Then : List Entry → Type 0} {met : List Outcome} {a b : Core} {tape 
   pub after_drop : {c : Core} {tape2 : Option (List Entry)} {clock2 : Option (List Tick)} {entry : Entry}
       → Lasts Then → SoFar Then met a b tape tape1 log log1 faults faults1 clock clock1 parts
       → (reading dropped : ℕ) → entry ≡ event reading (kind.Dropped dropped)
-      → RunsWhere Then b c tape1 tape2 clock1 clock2 (entry ∷ []) → SoFar Then met a c tape tape2 log log1 faults faults1 clock clock2 parts
+      → RunsWhere Then b c tape1 tape2 clock1 clock2 (entry ∷ [])
+      → SoFar Then met a c tape tape2 log log1 faults faults1 clock clock2 parts
   after_drop lasts before reading dropped is runs = record {
     entries = event reading (kind.Dropped dropped) ∷ before.entries;
     calls = before.calls;
@@ -272,10 +293,12 @@ module _ {Then : List Entry → Type 0} {met : List Outcome} {a b : Core} {tape 
   -- a GET was made
   pub after_get : {c d : Core} {tape2 tape3 : Option (List Entry)} {log3 : Option (List Call)} {faults3 : ℕ}
       {clock2 clock3 : Option (List Tick)} {entry : Entry} {ended : Result Unit CallFault}
-      → Lasts Then → SoFar Then met a b tape tape1 log log1 faults faults1 clock clock1 parts → (reading : ℕ) (job : GetJob)
+      → Lasts Then → SoFar Then met a b tape tape1 log log1 faults faults1 clock clock1 parts
+      → (reading : ℕ) (job : GetJob)
       → entry ≡ event reading (kind.GetBegin job.block job.expect job.verify) → IsBlockOf parts job.block
       → RunsWhere Then b c tape1 tape2 clock1 clock2 (entry ∷ [])
-      → FetchDoes (Runs c d tape2 tape3 clock2 clock3) (Gains log1 log3) (CountsFaults faults1 faults3) job.block job.verify ended
+      → FetchDoes (Runs c d tape2 tape3 clock2 clock3) (Gains log1 log3)
+      (CountsFaults faults1 faults3) job.block job.verify ended
       → SoFar Then met a d tape tape3 log log3 faults faults3 clock clock3 parts
   after_get lasts before reading job is same runs fetched =
       let more = get_entries reading job fetched.answer.reading fetched.got fetched.bytes fetched.answer.taken in
@@ -285,7 +308,8 @@ module _ {Then : List Entry → Type 0} {met : List Outcome} {a b : Core} {tape 
         done = did_more before (get_does reading job is runs fetched);
         met_so = before.met_so;
         no_bytes = ap (λ bs. (bs ++ []) ++ []) before.no_bytes;
-        asks = get_asks parts before.entries reading job fetched.answer.reading fetched.got fetched.bytes fetched.answer.taken before.asks same;
+        asks = get_asks parts before.entries reading job fetched.answer.reading fetched.got fetched.bytes
+            fetched.answer.taken before.asks same;
         leads = λ past. lasts more (before.entries ++ past) (before.leads past);
       }
 
@@ -295,7 +319,8 @@ module _ {Then : List Entry → Type 0} {met : List Outcome} {a b : Core} {tape 
       → SoFar Then met a b tape tape1 log log1 faults faults1 clock clock1 parts → (reading : ℕ) (job : GetJob)
       → entry ≡ event reading (kind.GetBegin job.block job.expect job.verify) → IsBlockOf parts job.block
       → RunsWhere Then b c tape1 tape2 clock1 clock2 (entry ∷ [])
-      → FetchDoes (Runs c d tape2 tape3 clock2 clock3) (Gains log1 log3) (CountsFaults faults1 faults3) job.block job.verify ended
+      → FetchDoes (Runs c d tape2 tape3 clock2 clock3) (Gains log1 log3)
+      (CountsFaults faults1 faults3) job.block job.verify ended
       → (fault : CallFault) → ended ≡ Err fault
       → Does (Did a d tape tape3 log log3 faults faults3 clock clock3) parts
       (λ entries calls. (outcomes_of entries ≡ met) × HasCause fault entries calls)
@@ -303,7 +328,8 @@ module _ {Then : List Entry → Type 0} {met : List Outcome} {a b : Core} {tape 
       let ends : EndsAs {U = Unit {0}} fetched.got (Err fault) =
       subst (λ (r : Result Unit CallFault). EndsAs fetched.got r) failed fetched.answer.ends in
       let begun = event reading (kind.GetBegin job.block job.expect job.verify) in
-      let cause = get_failed job.block job.verify fetched.got fetched.bytes fetched.answer.reading fetched.answer.taken fault (begun ∷ []) ends in
+      let cause = get_failed job.block job.verify fetched.got fetched.bytes fetched.answer.reading
+      fetched.answer.taken fault (begun ∷ []) ends in
       let more = get_entries reading job fetched.answer.reading fetched.got fetched.bytes fetched.answer.taken in
       record {
         entries = more ++ before.entries;
@@ -313,20 +339,25 @@ module _ {Then : List Entry → Type 0} {met : List Outcome} {a b : Core} {tape 
           before.met_so,
           cause_stays fault before.entries more before.calls (get_calls job fetched.got fetched.bytes) cause,
         );
-        asks = get_asks parts before.entries reading job fetched.answer.reading fetched.got fetched.bytes fetched.answer.taken before.asks same;
+        asks = get_asks parts before.entries reading job fetched.answer.reading fetched.got fetched.bytes
+            fetched.answer.taken before.asks same;
       }
 
   -- a put was made
   pub after_put : {c d : Core} {tape2 tape3 : Option (List Entry)} {log3 : Option (List Call)} {faults3 : ℕ}
       {clock2 clock3 : Option (List Tick)} {entry : Entry} {ended : Result Unit CallFault}
-      → Lasts Then → SoFar Then met a b tape tape1 log log1 faults faults1 clock clock1 parts → (reading block : ℕ) (content : List ℕ)
+      → Lasts Then → SoFar Then met a b tape tape1 log log1 faults faults1 clock clock1 parts
+      → (reading block : ℕ) (content : List ℕ)
       → entry ≡ event reading (kind.PutBegin block content)
       → (runs : RunsWhere Then b c tape1 tape2 clock1 clock2 (entry ∷ []))
-      → StoreDoes (Runs c d tape2 tape3 clock2 clock3) (Gains log1 log3) (CountsFaults faults1 faults3) (sizes_of (geometry_of c)) block content ended
+      → StoreDoes (Runs c d tape2 tape3 clock2 clock3) (Gains log1 log3) (CountsFaults faults1 faults3)
+      (sizes_of (geometry_of c)) block content ended
       → SoFar Then met a d tape tape3 log log3 faults faults3 clock clock3 parts
-  after_put {c} {d} {tape2} {tape3} {log3} {faults3} {clock2} {clock3} {ended = ended} lasts before reading block content is runs stores =
+  after_put {c} {d} {tape2} {tape3} {log3} {faults3} {clock2} {clock3}
+      {ended = ended} lasts before reading block content is runs stores =
       let P : Geometry → Type 0 = λ g.
-      StoreDoes (Runs c d tape2 tape3 clock2 clock3) (Gains log1 log3) (CountsFaults faults1 faults3) (sizes_of g) block content ended in
+      StoreDoes (Runs c d tape2 tape3 clock2 clock3) (Gains log1 log3) (CountsFaults faults1 faults3)
+      (sizes_of g) block content ended in
       let stored = subst P runs.base.geometry stores in
       let more = put_entries reading block content stored.reading stored.sent in
       record {
@@ -342,21 +373,26 @@ module _ {Then : List Entry → Type 0} {met : List Outcome} {a b : Core} {tape 
   -- a put failed
   pub put_fails : {c d : Core} {tape2 tape3 : Option (List Entry)} {log3 : Option (List Call)} {faults3 : ℕ}
       {clock2 clock3 : Option (List Tick)} {entry : Entry} {ended : Result Unit CallFault}
-      → SoFar Then met a b tape tape1 log log1 faults faults1 clock clock1 parts → (reading block : ℕ) (content : List ℕ)
+      → SoFar Then met a b tape tape1 log log1 faults faults1 clock clock1 parts
+      → (reading block : ℕ) (content : List ℕ)
       → entry ≡ event reading (kind.PutBegin block content)
       → (runs : RunsWhere Then b c tape1 tape2 clock1 clock2 (entry ∷ []))
-      → StoreDoes (Runs c d tape2 tape3 clock2 clock3) (Gains log1 log3) (CountsFaults faults1 faults3) (sizes_of (geometry_of c)) block content ended
+      → StoreDoes (Runs c d tape2 tape3 clock2 clock3) (Gains log1 log3) (CountsFaults faults1 faults3)
+      (sizes_of (geometry_of c)) block content ended
       → (fault : CallFault) → ended ≡ Err fault
       → Does (Did a d tape tape3 log log3 faults faults3 clock clock3) parts
       (λ entries calls. (outcomes_of entries ≡ met) × HasCause fault entries calls)
-  put_fails {c} {d} {tape2} {tape3} {log3} {faults3} {clock2} {clock3} {ended = ended} before reading block content is runs stores fault failed =
+  put_fails {c} {d} {tape2} {tape3} {log3} {faults3} {clock2} {clock3}
+      {ended = ended} before reading block content is runs stores fault failed =
       let P : Geometry → Type 0 = λ g.
-      StoreDoes (Runs c d tape2 tape3 clock2 clock3) (Gains log1 log3) (CountsFaults faults1 faults3) (sizes_of g) block content ended in
+      StoreDoes (Runs c d tape2 tape3 clock2 clock3) (Gains log1 log3) (CountsFaults faults1 faults3)
+      (sizes_of g) block content ended in
       let stored = subst P runs.base.geometry stores in
       let ends : EndsAs {U = Unit {0}} stored.sent (Err fault) =
       subst (λ (r : Result Unit CallFault). EndsAs stored.sent r) failed stored.ends in
       let more = put_entries reading block content stored.reading stored.sent in
-      let cause = put_failed block (meta_of (Some (sizes_of (geometry_of b))) block) content stored.sent stored.reading fault
+      let cause = put_failed block (meta_of (Some (sizes_of
+      (geometry_of b))) block) content stored.sent stored.reading fault
       (event reading (kind.PutBegin block content) ∷ []) ends in
       record {
         entries = more ++ before.entries;
@@ -364,7 +400,8 @@ module _ {Then : List Entry → Type 0} {met : List Outcome} {a b : Core} {tape 
         done = did_more before (put_does reading block content is runs stored);
         ends = (
           before.met_so,
-          cause_stays fault before.entries more before.calls (put_calls (sizes_of (geometry_of b)) block content stored.sent) cause,
+          cause_stays fault before.entries more before.calls (put_calls (sizes_of
+              (geometry_of b)) block content stored.sent) cause,
         );
         asks = record { asked = before.asks.asked };
       }

@@ -1,5 +1,6 @@
 -- What two runs of calls did, one after the other.
-use Rattle.std.proofs.Common.{ℕ, ◌≡◌, List, [], ◌∷◌, ◌++◌, Option, Some, None, refl, sym, ◌∙◌, ap, subst, append_assoc, ◌+◌, ◌-◌, ◌^◌, ◌≤◌, ◌⊎◌, inl, inr, arith, if◌then◌else◌}
+use Rattle.std.proofs.Common.{ℕ, ◌≡◌, List, [], ◌∷◌, ◌++◌, Option, Some, None, refl, sym, ◌∙◌, ap, subst, append_assoc}
+use Rattle.std.proofs.Common.{◌+◌, ◌-◌, ◌^◌, ◌≤◌, ◌⊎◌, inl, inr, arith, if◌then◌else◌}
 use Rattle.sb_base.specs.declared.geometry.Geometry.{Geometry}
 use Rattle.sb_base.specs.declared.settings.Settings.{Settings}
 use Rattle.sb_base.specs.declared.entry.Entry.{Entry}
@@ -18,7 +19,8 @@ use Rattle.sb_crew.specs.Counts.{is_failure, failures, Counts, Asked}
 use Rattle.sb_crew.specs.Runs.{only_caller, sizes_of, RunsWhere, DidWhere}
 
 -- what was gained, and what was gained then
-pub gains_join : {X : Type 0} (a b c : Option (List X)) (xs ys : List X) → Gains a b xs → Gains b c ys → Gains a c (ys ++ xs)
+pub gains_join : {X : Type 0} (a b c : Option (List X)) (xs ys : List X) → Gains a b xs → Gains b c ys
+    → Gains a c (ys ++ xs)
 gains_join a b c xs ys first second = record {
   told = λ list now.
       let later = second.told list now in
@@ -34,7 +36,7 @@ plus_assoc : (a b c : ℕ) → a + (b + c) ≡ (a + b) + c
 plus_assoc a b c = omega (arith)
 
 -- the failures among two runs of calls
-failures_join : (vs us : List Call) → failures (vs ++ us) ≡ failures vs + failures us
+pub failures_join : (vs us : List Call) → failures (vs ++ us) ≡ failures vs + failures us
 failures_join [] us = omega (arith)
 failures_join (v ∷ vs) us =
     ap (λ n. (if is_failure (fault_of v) then 1 else 0) + n) (failures_join vs us)
@@ -49,7 +51,8 @@ risen_join a b c m n first second (inr low) high = inr (omega (arith, low, secon
 
 -- a link was asked for these calls, and then for those
 pub asked_join : (log log' log'' : Option (List Call)) (faults faults' faults'' : ℕ) (us vs : List Call)
-    → Asked log log' faults faults' us → Asked log' log'' faults' faults'' vs → Asked log log'' faults faults'' (vs ++ us)
+    → Asked log log' faults faults' us → Asked log' log'' faults' faults'' vs
+    → Asked log log'' faults faults'' (vs ++ us)
 asked_join log log' log'' faults faults' faults'' us vs first second =
     let P : ℕ → Type 0 = λ n. (faults + n ≤ faults'') ⊎ (2 ^ 64 - 1 ≤ faults'') in
     record {
@@ -75,34 +78,42 @@ pass_joins xs (y ∷ ys) first second = (second.0, pass_joins xs ys first second
 
 -- a run over histories of one kind, and one over those that it leads to
 pub runs_join : {Is Then : List Entry → Type 0} {a b c : Core} {tape tape' tape'' : Option (List Entry)}
-    {clock clock' clock'' : Option (List Tick)} {xs ys : List Entry} → ((past : List Entry) → Is past → Then (xs ++ past))
+    {clock clock' clock'' : Option (List Tick)} {xs ys : List Entry} → ((past : List Entry) → Is past
+    → Then (xs ++ past))
     → RunsWhere Is a b tape tape' clock clock' xs → RunsWhere Then b c tape' tape'' clock' clock'' ys
     → RunsWhere Is a c tape tape'' clock clock'' (ys ++ xs)
-runs_join {Is} {Then} {a} {b} {c} {tape} {tape'} {tape''} {clock} {clock'} {clock''} {xs} {ys} leads first second = record {
-  base = record { geometry = second.base.geometry ∙ first.base.geometry; settings = second.base.settings ∙ first.base.settings };
-  history = λ past fits is.
-      subst (Represents c) (sym (append_assoc ys xs past))
-      (second.history (xs ++ past) (leads past fits) (first.history past fits is));
-  of_pass = pass_joins xs ys first.of_pass second.of_pass;
-  told = gains_join tape tape' tape'' xs ys first.told second.told;
-  ticks = second.ticks ++ first.ticks;
-  readings = gains_join clock clock' clock'' first.ticks second.ticks first.readings second.readings;
-  trace = λ past fits is.
-      let P : Geometry → Type 0 = λ g. ClockTrace g (settings_of b) only_caller (xs ++ past) ys None second.ticks in
-      let Q : Settings → Type 0 = λ s. ClockTrace (geometry_of a) s only_caller (xs ++ past) ys None second.ticks in
-      let later = second.trace (xs ++ past) (leads past fits) (first.history past fits is) in
-      clock_traces_join (geometry_of a) (settings_of a) only_caller past xs ys None first.ticks second.ticks
-      (first.trace past fits is) (subst Q first.base.settings (subst P first.base.geometry later));
-}
+runs_join {Is} {Then} {a} {b} {c} {tape} {tape'} {tape''} {clock} {clock'} {clock''} {xs}
+    {ys} leads first second = record {
+      base = record {
+        geometry = second.base.geometry ∙ first.base.geometry;
+        settings = second.base.settings
+            ∙ first.base.settings;
+      };
+      history = λ past fits is.
+          subst (Represents c) (sym (append_assoc ys xs past))
+          (second.history (xs ++ past) (leads past fits) (first.history past fits is));
+      of_pass = pass_joins xs ys first.of_pass second.of_pass;
+      told = gains_join tape tape' tape'' xs ys first.told second.told;
+      ticks = second.ticks ++ first.ticks;
+      readings = gains_join clock clock' clock'' first.ticks second.ticks first.readings second.readings;
+      trace = λ past fits is.
+          let P : Geometry → Type 0 = λ g. ClockTrace g (settings_of b) only_caller (xs ++ past) ys None second.ticks in
+          let Q : Settings → Type 0 = λ s. ClockTrace (geometry_of a) s only_caller (xs ++ past) ys None second.ticks in
+          let later = second.trace (xs ++ past) (leads past fits) (first.history past fits is) in
+          clock_traces_join (geometry_of a) (settings_of a) only_caller past xs ys None first.ticks second.ticks
+          (first.trace past fits is) (subst Q first.base.settings (subst P first.base.geometry later));
+    }
 
 -- what was done to histories of one kind, and then to those that it leads to
 pub did_join : {Is Then : List Entry → Type 0} {a b c : Core} {tape tape' tape'' : Option (List Entry)}
     {log log' log'' : Option (List Call)} {faults faults' faults'' : ℕ}
     {clock clock' clock'' : Option (List Tick)} {xs ys : List Entry} {us vs : List Call}
-    → ((past : List Entry) → Is past → Then (xs ++ past)) → DidWhere Is a b tape tape' log log' faults faults' clock clock' xs us
+    → ((past : List Entry) → Is past → Then (xs ++ past))
+    → DidWhere Is a b tape tape' log log' faults faults' clock clock' xs us
     → DidWhere Then b c tape' tape'' log' log'' faults' faults'' clock' clock'' ys vs
     → DidWhere Is a c tape tape'' log log'' faults faults'' clock clock'' (ys ++ xs) (vs ++ us)
-did_join {Is} {Then} {a} {b} {c} {tape} {tape'} {tape''} {log} {log'} {log''} {faults} {faults'} {faults''} {clock} {clock'} {clock''} {xs} {ys} {us} {vs} leads first second =
+did_join {Is} {Then} {a} {b} {c} {tape} {tape'} {tape''} {log} {log'} {log''} {faults} {faults'} {faults''} {clock}
+    {clock'} {clock''} {xs} {ys} {us} {vs} leads first second =
     let P : Geometry → Type 0 = λ g. RequestLog block_name (Some (sizes_of g)) ys vs in
     record {
       runs = runs_join leads first.runs second.runs;

@@ -20,7 +20,8 @@ use Rattle.sb_crew.specs.Runs.{Did}
 
 -- what a call did so far: these outcomes, no bytes that it wants, and it asked for no other blocks than those of these
 -- parts. It led to histories of this kind.
-pub record SoFar (Then : List Entry → Type 0) (met : List Outcome) (core core' : Core) (tape tape' : Option (List Entry))
+pub record SoFar (Then : List Entry
+    → Type 0) (met : List Outcome) (core core' : Core) (tape tape' : Option (List Entry))
     (log log' : Option (List Call)) (faults faults' : ℕ) (clock clock' : Option (List Tick)) (parts : List Part)
     : Type 0 where
   pub entries : List Entry
@@ -36,7 +37,11 @@ pub record AnswerDoes (runs : List Entry → Type 0) (block : ℕ) (verify : Opt
     (bytes : List ℕ) (result : Result Unit CallFault) : Type 0 where
   pub reading : ℕ
   pub taken : Bool
-  pub ran : runs (record { pass = 1; reading = reading; kind = kind.GetEnd block (shown_for got bytes) verify taken } ∷ [])
+  pub ran : runs (record {
+    pass = 1;
+    reading = reading;
+    kind = kind.GetEnd block (shown_for got bytes) verify taken;
+  } ∷ [])
   pub ends : EndsAs got result
 
 -- what a GET did: one call of the link, and its end
@@ -49,7 +54,8 @@ pub record FetchDoes (runs : List Entry → Type 0) (asked : List Call → Type 
   pub answer : AnswerDoes runs block verify got bytes result
 
 -- what a PUT did: one call of the link, one entry of its end, and the fault of the call where it failed
-pub record StoreDoes (runs : List Entry → Type 0) (asked : List Call → Type 0) (counts : Type 0 → Type 0) (sizes : Meta) (block : ℕ) (content : List ℕ) (result : Result Unit CallFault) : Type 0 where
+pub record StoreDoes (runs : List Entry → Type 0) (asked : List Call → Type 0) (counts : Type 0
+    → Type 0) (sizes : Meta) (block : ℕ) (content : List ℕ) (result : Result Unit CallFault) : Type 0 where
   pub sent : Result Unit LinkFault
   pub reading : ℕ
   pub ran : runs (record { pass = 1; reading = reading; kind = kind.PutEnd block (is_ok sent) } ∷ [])

@@ -11,7 +11,8 @@ returns-in-Ok-bench g c =
         before = c.in-Ok-bench.bench;
         after = c.serve_bench-status.result.2;
         next_is = c.in-Ok-bench.ensures.next;
-        last_is = c.shut.ensures.last ∙ ap (λ (t : Bool). shut_bench t c.serve_bench-status.result.2) c.bench.ensures.frame.0;
+        last_is = c.shut.ensures.last
+            ∙ ap (λ (t : Bool). shut_bench t c.serve_bench-status.result.2) c.bench.ensures.frame.0;
         bench = c.serve_bench-status.ensures;
       };
       quiet = c.shut.ensures.frame.1 ∙ c.bench.ensures.frame.2;

@@ -33,7 +33,13 @@ returns-in-Done-clause-did g c =
     let ended = ends_with c.turns.invariant.so_far c.ask_flush.new.self.reading (kind.FlushDone mark)
     (ap (flush_step_entry 1 c.ask_flush.new.self.reading mark c.ask_flush.new.room) c.in-Done.is)
     refl refl c.ask_flush.ensures.runs in
-    record { entries = ended.entries; calls = ended.calls; done = ended.done; ends = (mark, ended.ends.0); asks = ended.asks }
+    record {
+      entries = ended.entries;
+      calls = ended.calls;
+      done = ended.done;
+      ends = (mark, ended.ends.0);
+      asks = ended.asks;
+    }
 
 pub returns-in_err-store-in-Put-clause-did : goal.returns-in_err-store-in-Put-clause-did
 returns-in_err-store-in-Put-clause-did g c =
@@ -47,6 +53,14 @@ returns-in_err-store-in-Put-clause-did g c =
       entries = ended.entries;
       calls = ended.calls;
       done = ended.done;
-      ends = (mark, record { missing = FlushEnded mark ∷ []; some = omega (arith); met = ap (λ (os : List Outcome). FlushEnded mark ∷ os) ended.ends.0; cause = ended.ends.1 });
+      ends = (
+        mark,
+        record {
+          missing = FlushEnded mark ∷ [];
+          some = omega (arith);
+          met = ap (λ (os : List Outcome). FlushEnded mark ∷ os) ended.ends.0;
+          cause = ended.ends.1;
+        },
+      );
       asks = ended.asks;
     }

@@ -13,7 +13,8 @@ invariant-turns g l =
     record {
       so_far : SoFar any_past [] l.fn.self.core l.self.core (g.T.Tape.told l.fn.self.tape) (g.T.Tape.told l.self.tape)
           (g.L.Link.log l.fn.desk.link) (g.L.Link.log l.link)
-          (g.L.Link.faults l.fn.desk.link) (g.L.Link.faults l.link) (g.C.Clock.ticks l.fn.desk.clock) (g.C.Clock.ticks l.clock)
+          (g.L.Link.faults l.fn.desk.link) (g.L.Link.faults l.link) (g.C.Clock.ticks l.fn.desk.clock)
+          (g.C.Clock.ticks l.clock)
           (l.part ∷ []);
       ready : IsReady l.self.core l.self.reading (length l.room);
       part : IsPart (geometry_of l.self.core) l.part;

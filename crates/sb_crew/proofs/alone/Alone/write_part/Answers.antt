@@ -30,17 +30,21 @@ turns-init g c = record {
 pub turns-preserved-in-Continue-1 : goal.turns-preserved-in-Continue-1
 turns-preserved-in-Continue-1 g c =
     let so_far = after_get any_lasts c.turns.invariant.so_far c.ask_write.new.self.reading c.in-Get.job
-    (ap (write_entry 1 c.ask_write.new.self.reading c.args.part c.args.bytes.now c.ask_write.new.room) c.in-Get.is) (inl (sym c.in-Get.ensures.leads.same_block)) c.ask_write.ensures.runs c.fetch.ensures.did in
+    (ap (write_entry 1 c.ask_write.new.self.reading c.args.part c.args.bytes.now c.ask_write.new.room) c.in-Get.is)
+    (inl (sym c.in-Get.ensures.leads.same_block)) c.ask_write.ensures.runs c.fetch.ensures.did in
     record {
       so_far = so_far;
       ready = c.fetch.ensures.ready;
-      part = subst (λ (geometry : Geometry). IsPart geometry c.args.part) (sym (so_far.done.runs.base.geometry ∙ sym c.turns.invariant.so_far.done.runs.base.geometry)) c.turns.invariant.part;
+      part = subst (λ (geometry : Geometry). IsPart geometry c.args.part)
+          (sym (so_far.done.runs.base.geometry
+          ∙ sym c.turns.invariant.so_far.done.runs.base.geometry)) c.turns.invariant.part;
     }
 
 pub turns-preserved-in-Dropped : goal.turns-preserved-in-Dropped
 turns-preserved-in-Dropped g c =
     let so_far = after_drop any_lasts c.turns.invariant.so_far c.ask_write.new.self.reading c.in-Dropped.field-0
-    (ap (write_entry 1 c.ask_write.new.self.reading c.args.part c.args.bytes.now c.ask_write.new.room) c.in-Dropped.is) c.ask_write.ensures.runs in
+    (ap (write_entry 1 c.ask_write.new.self.reading c.args.part c.args.bytes.now c.ask_write.new.room)
+    c.in-Dropped.is) c.ask_write.ensures.runs in
     record {
       so_far = so_far;
       ready = record {
@@ -49,36 +53,60 @@ turns-preserved-in-Dropped g c =
         whole_room = c.ask_write.auto.room ∙ c.turns.invariant.ready.whole_room
             ∙ ap (λ (geometry : Geometry). geometry.block_size) (sym c.ask_write.ensures.runs.base.geometry);
       };
-      part = subst (λ (geometry : Geometry). IsPart geometry c.args.part) (sym (so_far.done.runs.base.geometry ∙ sym c.turns.invariant.so_far.done.runs.base.geometry)) c.turns.invariant.part;
+      part = subst (λ (geometry : Geometry). IsPart geometry c.args.part)
+          (sym (so_far.done.runs.base.geometry
+          ∙ sym c.turns.invariant.so_far.done.runs.base.geometry)) c.turns.invariant.part;
     }
 
 pub turns-preserved : goal.turns-preserved
 turns-preserved g c =
-    let so_far = after_put any_lasts c.turns.invariant.so_far c.ask_write.new.self.reading c.in-Put.job.block c.ask_write.new.room
-    (ap (write_entry 1 c.ask_write.new.self.reading c.args.part c.args.bytes.now c.ask_write.new.room) c.in-Put.is) c.ask_write.ensures.runs c.store.ensures.did in
+    let so_far = after_put any_lasts c.turns.invariant.so_far c.ask_write.new.self.reading c.in-Put.job.block
+    c.ask_write.new.room
+    (ap (write_entry 1 c.ask_write.new.self.reading c.args.part c.args.bytes.now c.ask_write.new.room) c.in-Put.is)
+    c.ask_write.ensures.runs c.store.ensures.did in
     record {
       so_far = so_far;
       ready = c.store.ensures.ready;
-      part = subst (λ (geometry : Geometry). IsPart geometry c.args.part) (sym (so_far.done.runs.base.geometry ∙ sym c.turns.invariant.so_far.done.runs.base.geometry)) c.turns.invariant.part;
+      part = subst (λ (geometry : Geometry). IsPart geometry c.args.part)
+          (sym (so_far.done.runs.base.geometry
+          ∙ sym c.turns.invariant.so_far.done.runs.base.geometry)) c.turns.invariant.part;
     }
 
 pub returns-in-Done-clause-did : goal.returns-in-Done-clause-did
 returns-in-Done-clause-did g c =
-    let ended = ends_with c.turns.invariant.so_far c.ask_write.new.self.reading (kind.Write c.args.part c.args.bytes.now) (ap (write_entry 1 c.ask_write.new.self.reading c.args.part c.args.bytes.now c.ask_write.new.room) c.in-Done.is) refl refl c.ask_write.ensures.runs in
+    let ended = ends_with c.turns.invariant.so_far c.ask_write.new.self.reading
+    (kind.Write c.args.part c.args.bytes.now)
+    (ap (write_entry 1 c.ask_write.new.self.reading c.args.part c.args.bytes.now c.ask_write.new.room)
+    c.in-Done.is) refl refl c.ask_write.ensures.runs in
     record { entries = ended.entries; calls = ended.calls; done = ended.done; ends = ended.ends.0; asks = ended.asks }
 
 pub returns-in_err-fetch-in-Get-clause-did : goal.returns-in_err-fetch-in-Get-clause-did
 returns-in_err-fetch-in-Get-clause-did g c =
     let ended = get_fails c.turns.invariant.so_far c.ask_write.new.self.reading c.in-Get.job
-    (ap (write_entry 1 c.ask_write.new.self.reading c.args.part c.args.bytes.now c.ask_write.new.room) c.in-Get.is) (inl (sym c.in-Get.ensures.leads.same_block)) c.ask_write.ensures.runs c.fetch.ensures.did
+    (ap (write_entry 1 c.ask_write.new.self.reading c.args.part c.args.bytes.now c.ask_write.new.room) c.in-Get.is)
+    (inl (sym c.in-Get.ensures.leads.same_block)) c.ask_write.ensures.runs c.fetch.ensures.did
     c.in_err-fetch-in-Get.field-0.0 c.in_err-fetch-in-Get.was in
     let failed = err_from_is_err_and c.from_residual.result c.from_residual.ensures.1 in
-    rw (failed.1, failed.2) record { entries = ended.entries; calls = ended.calls; done = ended.done; ends = ended.ends; asks = ended.asks }
+    rw (failed.1, failed.2) record {
+      entries = ended.entries;
+      calls = ended.calls;
+      done = ended.done;
+      ends = ended.ends;
+      asks = ended.asks;
+    }
 
 pub returns-in_err-store-in-Put-clause-did : goal.returns-in_err-store-in-Put-clause-did
 returns-in_err-store-in-Put-clause-did g c =
     let ended = put_fails c.turns.invariant.so_far c.ask_write.new.self.reading c.in-Put.job.block c.ask_write.new.room
-    (ap (write_entry 1 c.ask_write.new.self.reading c.args.part c.args.bytes.now c.ask_write.new.room) c.in-Put.is) c.ask_write.ensures.runs c.store.ensures.did
+    (ap (write_entry 1 c.ask_write.new.self.reading c.args.part c.args.bytes.now c.ask_write.new.room) c.in-Put.is)
+    c.ask_write.ensures.runs c.store.ensures.did
     c.in_err-store-in-Put.field-0.0 c.in_err-store-in-Put.was in
-    let failed = err_from_is_err_and c.from_residual-in_err-store-in-Put.result c.from_residual-in_err-store-in-Put.ensures.1 in
-    rw (failed.1, failed.2) record { entries = ended.entries; calls = ended.calls; done = ended.done; ends = ended.ends; asks = ended.asks }
+    let failed = err_from_is_err_and c.from_residual-in_err-store-in-Put.result
+    c.from_residual-in_err-store-in-Put.ensures.1 in
+    rw (failed.1, failed.2) record {
+      entries = ended.entries;
+      calls = ended.calls;
+      done = ended.done;
+      ends = ended.ends;
+      asks = ended.asks;
+    }

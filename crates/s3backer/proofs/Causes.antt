@@ -1,0 +1,180 @@
+-- What a run can't end with where no count of faults rose.
+use Rattle.std.proofs.Common.{ℕ, ◌≡◌, ◌≢◌, ◌+◌, ◌-◌, ◌^◌, ◌≤◌, ◌⊎◌, suc, zero, nat_eq, nat_lt, Bool, true, false}
+use Rattle.std.proofs.Common.{if◌then◌else◌, List, [], ◌∷◌, ◌++◌, Option, Some, None, Result, Ok, Err, refl, sym, ◌∙◌}
+use Rattle.std.proofs.Common.{ap, subst, inl, inr, arith}
+use Rattle.std.specs.List.{AllByRecursion}
+use Rattle.std.proofs.Math.Nat.{min-le_left, min-le_right, le_trans}
+use Rattle.sb_base.specs.declared.geometry.Geometry.{Geometry}
+use Rattle.sb_base.specs.declared.entry.Entry.{Entry}
+use Rattle.sb_world.specs.Told.{Rose}
+use Rattle.sb_world.specs.declared.link.Call.{Call}
+use Rattle.sb_world.specs.declared.link.LinkFault.{LinkFault}
+use Rattle.sb_world.specs.declared.link.LinkFault.TheVariants as link
+use Rattle.sb_nbd.specs.declared.wanted.Wanted.{Wanted}
+use Rattle.sb_nbd.specs.declared.wanted.TheConstants.{READ, WRITE, FLUSH}
+use Rattle.sb_nbd.specs.declared.request.TheConstants.{MAX_PAYLOAD}
+use Rattle.sb_nbd.specs.Requests.{Request}
+use Rattle.sb_nbd.specs.declared.reply.TheConstants.{EINVAL, ENOSPC, EIO, ENOMEM}
+use Rattle.sb_crew.specs.declared.calls.CallFault.{CallFault}
+use Rattle.sb_crew.specs.declared.calls.CallFault.TheVariants.{StoreFault, Memory}
+use Rattle.sb_crew.specs.Outcomes.{Outcome, HasCause, Stops, FlushEnds, fault_of}
+use Rattle.sb_crew.specs.Counts.{is_failure, failures, Counts}
+use Rattle.sb_crew.specs.Joins.{failures_join}
+use Rattle.sb_session.specs.declared.end.SessionEnd.{SessionEnd}
+use Rattle.sb_session.specs.declared.end.SessionEnd.TheVariants as end
+use Rattle.sb_session.specs.Goals.{refusal, passes_end, goal_of, body_of}
+use Rattle.sb_session.specs.Answers.{AnswersBy, IsAnswer, error_of}
+use Rattle.sb_session.specs.Transcripts.{Exchange, IsAnswered, IsTranscript, calls_of}
+use Rattle.sb_session.specs.Sessions.{Served}
+use Rattle.s3backer.specs.Headline.{flush_status, run_status, NoneFailed}
+
+-- a sum of nothing has nothing in it
+sum_nothing : (m n : ℕ) → m + n ≡ 0 → (m ≡ 0) × (n ≡ 0)
+sum_nothing zero zero is = (refl, refl)
+sum_nothing zero (suc n) is = absurd (omega (arith, is))
+sum_nothing (suc m) n is = absurd (omega (arith, is))
+
+-- a count that didn't rise leaves no room for a failure
+none_risen : (before now n : ℕ) → (Rose before now → ⊥) → before + n ≤ now → n ≡ 0
+none_risen before now zero quiet low = refl
+none_risen before now (suc n) quiet low =
+    absurd (quiet (le_trans (min-le_left (before + 1) (2 ^ 64 - 1)) (omega (arith, low))))
+
+quiet_has_none : (before now : ℕ) (calls : List Call) → (Rose before now → ⊥) → Counts before now calls
+    → failures calls ≡ 0
+quiet_has_none before now calls quiet counts = by counts.risen where
+  by : (before + failures calls ≤ now) ⊎ (2 ^ 64 - 1 ≤ now) → failures calls ≡ 0
+  by (inl low) = none_risen before now (failures calls) quiet low
+  by (inr high) = absurd (quiet (le_trans (min-le_right (before + 1) (2 ^ 64 - 1)) high))
+
+-- a failed call is one
+cause_fails : (status : ℕ) (entries : List Entry) (calls : List Call) → HasCause (StoreFault status) entries calls
+    → failures calls ≡ 0 → ⊥
+cause_fails status [] calls cause none = cause
+cause_fails status (entry ∷ entries) [] cause none = cause
+cause_fails status (entry ∷ entries) (asked ∷ calls) cause none =
+    let P : Option LinkFault → Type 0 = λ fault. (if is_failure fault then 1 else 0) + failures calls ≡ 0 in
+    let one : 1 + failures calls ≡ 0 = subst P cause.1 none in
+    omega (arith, one)
+
+-- no request is refused by the error of a store that failed
+abbrev IsOtherCode : Option ℕ → Type 0
+IsOtherCode None = Unit {0}
+IsOtherCode (Some code) = code ≢ EIO
+
+record IsOther (refused : Option ℕ) : Type 0 where
+  code : IsOtherCode refused
+
+either_other : (t : Bool) (x y : Option ℕ) → IsOther x → IsOther y → IsOther (if t then x else y)
+either_other true x y first second = first
+either_other false x y first second = second
+
+invalid_is_other : IsOther (Some EINVAL)
+invalid_is_other = record { code = λ is. absurd (omega (arith, is)) }
+
+no_space_is_other : IsOther (Some ENOSPC)
+no_space_is_other = record { code = λ is. absurd (omega (arith, is)) }
+
+served_is_other : IsOther None
+served_is_other = record { code = tt }
+
+refused_otherwise : (geometry : Geometry) (w : Wanted) → IsOther (refusal geometry w)
+refused_otherwise geometry w =
+    either_other (nat_lt FLUSH w.kind) _ _ invalid_is_other
+    (either_other (nat_lt 0 w.flags) _ _ invalid_is_other
+    (either_other (nat_eq w.kind READ) _ _
+    (either_other (nat_lt MAX_PAYLOAD w.length) _ _ invalid_is_other
+    (either_other (passes_end geometry w) _ _ invalid_is_other served_is_other))
+    (either_other (nat_eq w.kind WRITE) _ _
+    (either_other (passes_end geometry w) _ _ no_space_is_other served_is_other) served_is_other)))
+
+-- the reply to a request none of whose calls failed
+memory_is_other : ENOMEM ≢ EIO
+memory_is_other is = absurd (omega (arith, is))
+
+none_is_other : 0 ≢ EIO
+none_is_other is = absurd (omega (arith, is))
+
+-- the reply to a request none of whose calls failed
+number_otherwise : (fault : CallFault) (goal : List Outcome) (entries : List Entry) (calls : List Call) (error : ℕ)
+    → Stops goal entries calls fault → error ≡ error_of fault → failures calls ≡ 0 → error ≢ EIO
+number_otherwise (StoreFault status) goal entries calls error stops is none =
+    absurd (cause_fails status entries calls stops.cause none)
+number_otherwise Memory goal entries calls error stops is none =
+    subst (λ (n : ℕ). n ≢ EIO) (sym is) memory_is_other
+
+answer_otherwise : (goal : List Outcome) (bytes : List ℕ) (entries : List Entry) (calls : List Call) (error : ℕ)
+    (body : List ℕ) → failures calls ≡ 0 → IsAnswer goal bytes entries calls error body → error ≢ EIO
+answer_otherwise goal bytes entries calls error body none (inl done) = subst (λ (n : ℕ). n ≢ EIO)
+    (sym done.no_error) none_is_other
+answer_otherwise goal bytes entries calls error body none (inr failed) =
+    number_otherwise failed.fault goal entries calls error failed.stops failed.number none
+
+reply_otherwise : (refused : Option ℕ) → IsOther refused
+    → (geometry : Geometry) (r : Request) (error : ℕ) (body : List ℕ)
+    (entries : List Entry) (calls : List Call) → failures calls ≡ 0
+    → AnswersBy refused geometry r error body entries calls
+    → error ≢ EIO
+reply_otherwise (Some code) other geometry r error body entries calls none answer =
+    subst (λ (n : ℕ). n ≢ EIO) (sym answer.number) other.code
+reply_otherwise None other geometry r error body entries calls none answer =
+    answer_otherwise (goal_of geometry r answer.0) (body_of r.wanted entries) entries calls error body none answer.1
+
+replies_otherwise : (geometry : Geometry) (xs : List Exchange) → failures (calls_of xs) ≡ 0 → IsTranscript geometry xs
+    → AllByRecursion (λ x. x.error ≢ EIO) xs
+replies_otherwise geometry [] none answered = tt
+replies_otherwise geometry (x ∷ xs) none answered =
+    let parts = sum_nothing (failures x.calls) (failures (calls_of xs))
+    (sym (failures_join x.calls (calls_of xs)) ∙ none) in (
+      reply_otherwise (refusal geometry x.request.wanted)
+          (refused_otherwise geometry x.request.wanted) geometry x.request
+          x.error x.body x.entries x.calls parts.0 answered.0.answer,
+      replies_otherwise geometry xs parts.1 answered.1,
+    )
+
+-- without a fault of the store no reply tells one
+pub none_failed : {geometry : Geometry} {transmission : ℕ} {before now held_before held_now : Option (List ℕ)}
+    {ended : SessionEnd} {entries : List Entry} {calls : List Call} {Unserved : Type 0}
+    (course : Unserved ⊎ Served geometry transmission before now held_before held_now ended entries calls)
+    (faults faults' : ℕ) (flush_calls : List Call) → (Rose faults faults' → ⊥)
+    → Counts faults faults' (flush_calls ++ calls)
+    → NoneFailed course
+none_failed (inl unserved) faults faults' flush_calls quiet counts = tt
+none_failed {geometry} {calls = calls} (inr served) faults faults' flush_calls quiet counts =
+    let none = quiet_has_none faults faults' (flush_calls ++ calls) quiet counts in
+    let parts = sum_nothing (failures flush_calls) (failures calls) (sym (failures_join flush_calls calls) ∙ none) in
+    replies_otherwise geometry served.transcript (ap failures (sym served.calls_are) ∙ parts.1) served.answered
+
+-- a flush none of whose calls failed ended well, or lacked memory
+flushed_well : (flushed : Result Unit CallFault) (entries : List Entry) (calls : List Call)
+    → FlushEnds flushed entries calls
+    → failures calls ≡ 0 → (flush_status flushed ≡ 0) ⊎ (flush_status flushed ≡ 12)
+flushed_well (Ok done) entries calls ends none = inl refl
+flushed_well (Err (StoreFault status)) entries calls ends none = absurd
+    (cause_fails status entries calls ends.1.cause none)
+flushed_well (Err Memory) entries calls ends none = inr refl
+
+-- without any fault, and of an input that isn't refused and isn't too long, a run ends well or lacks memory
+pub ended_well : (ended : SessionEnd) (flushed : Result Unit CallFault) (entries : List Entry)
+    (calls flush_calls : List Call)
+    (faults faults' : ℕ) {Read Written : Type 0} → FlushEnds flushed entries flush_calls
+    → (Rose faults faults' → ⊥) → Counts faults faults' (flush_calls ++ calls)
+    → (ended ≡ end.ReadFault → Read) → (ended ≡ end.WriteFault → Written) → (Read → ⊥) → (Written → ⊥)
+    → ended ≢ end.Refused → ended ≢ end.Spent → (run_status ended flushed ≡ 0) ⊎ (run_status ended flushed ≡ 12)
+ended_well ended flushed entries calls flush_calls faults faults' {Read = Read}
+    {Written = Written} ends quiet counts at_read
+    at_write read written refused spent =
+    by ended at_read at_write refused spent where
+      none : failures flush_calls ≡ 0
+      none = (sum_nothing (failures flush_calls) (failures calls)
+          (sym (failures_join flush_calls calls) ∙ quiet_has_none faults faults' (flush_calls ++ calls) quiet counts)).0
+
+      by : (e : SessionEnd) → (e ≡ end.ReadFault → Read) → (e ≡ end.WriteFault → Written) → e ≢ end.Refused
+          → e ≢ end.Spent
+          → (run_status e flushed ≡ 0) ⊎ (run_status e flushed ≡ 12)
+      by end.Disconnected at_read at_write refused spent = flushed_well flushed entries flush_calls ends none
+      by end.Ended at_read at_write refused spent = flushed_well flushed entries flush_calls ends none
+      by end.Refused at_read at_write refused spent = absurd (refused refl)
+      by end.ReadFault at_read at_write refused spent = absurd (read (at_read refl))
+      by end.WriteFault at_read at_write refused spent = absurd (written (at_write refl))
+      by end.Spent at_read at_write refused spent = absurd (spent refl)
