@@ -30,6 +30,7 @@ impl HandClock {
         ensures ticks { result.ticks ≡ Some [] }
         ensures moments { result.moments ≡ Some [] }
         ensures latest { result.latest ≡ 0 }
+        ensures given { (result.reading ≡ reading) × (result.moment ≡ moment) × (result.stalled ≡ stalled) }
     {
         HandClock {
             reading,

@@ -27,6 +27,7 @@ impl Failing {
     pub fn new(alloc: Global, store: PlainStore, fails: Vec<u64>) -> Failing
         ensures log { result.log ≡ Some [] }
         ensures faults { result.faults ≡ 0 }
+        ensures given { (result.store ≡ store) × (result.fails ≡ fails) × (result.calls ≡ 0) }
     {
         Failing {
             store,
