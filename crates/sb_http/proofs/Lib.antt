@@ -1,0 +1,4 @@
+pub mod FilledVectors
+pub mod TakingsJoined
+pub mod LinesRead
+pub mod ChunksRead

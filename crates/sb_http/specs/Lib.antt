@@ -1,0 +1,4 @@
+pub mod Windows
+pub mod Takings
+pub mod Lines
+pub mod Chunks
