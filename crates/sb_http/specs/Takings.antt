@@ -49,4 +49,5 @@ TakesInto before now ahead left old new want (Ok n) =
     × (ended : Bool) × Takes before now ahead left bytes ended
     × (n < want → (left ≡ []) × (ended ≡ true)) × (n ≡ want → ended ≡ false)
 TakesInto before now ahead left old new want (Err fault) =
-    IsOutside fault × (bytes : List ℕ) × (new ≡ old ++ bytes) × Takes before now ahead left bytes false
+    IsOutside fault × (bytes : List ℕ) × (length bytes ≤ want) × (new ≡ old ++ bytes)
+    × Takes before now ahead left bytes false

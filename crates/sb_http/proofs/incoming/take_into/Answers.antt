@@ -5,7 +5,7 @@ use Rattle.sb_http.proofs.TakingsJoined.{takes_both, takes_nothing, takes_receiv
 use Rattle.sb_http.proofs.incoming.take_into.Goals as goal
 
 pub returns-in-Err-clause-told : goal.returns-in-Err-clause-told
-returns-in-Err-clause-told g c = (tt, [], c.in-Err.ensures.1 ∙ sym (append-nil _), takes_waiting _ _ _ [] (sym c.in-Err.ensures.0))
+returns-in-Err-clause-told g c = (tt, [], omega arith, c.in-Err.ensures.1 ∙ sym (append-nil _), takes_waiting _ _ _ [] (sym c.in-Err.ensures.0))
 
 pub returns-in-Ok-eq0-clause-told : goal.returns-in-Ok-eq0-clause-told
 returns-in-Ok-eq0-clause-told g c =
