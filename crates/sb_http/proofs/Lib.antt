@@ -2,3 +2,5 @@ pub mod FilledVectors
 pub mod TakingsJoined
 pub mod LinesRead
 pub mod ChunksRead
+pub mod ChunkedBodies
+pub mod PlainBodies

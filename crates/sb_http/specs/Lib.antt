@@ -2,3 +2,5 @@ pub mod Windows
 pub mod Takings
 pub mod Lines
 pub mod Chunks
+pub mod Bodies
+pub mod Fields

@@ -3,8 +3,11 @@
 //! What is answered is a function of the bytes that came, however they were cut.
 #![tactic(auto)]
 
+mod body;
 mod chunked;
 mod fault;
+mod fields;
+mod framing;
 mod incoming;
 mod line;
 mod reading;
