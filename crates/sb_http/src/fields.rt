@@ -33,9 +33,7 @@ pub(crate) fn fields_of(
 fn in_lower_case(alloc: Global, text: &[u8]) -> Result<Text, AllocError>
     ensures { IfOk result (λ lower. lower ≡ lowercase text.now) }
 {
-    let mut lower = Vec::with_capacity(alloc, text.len())?;
-    for byte in text {
-        lower.push(byte.to_ascii_lowercase())?;
-    }
+    let mut lower = Vec::from_slice(alloc, text)?;
+    lower.as_mut_slice().make_ascii_lowercase();
     Ok(Text::from_vec(lower))
 }
