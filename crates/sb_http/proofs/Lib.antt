@@ -4,3 +4,4 @@ pub mod LinesRead
 pub mod ChunksRead
 pub mod ChunkedBodies
 pub mod PlainBodies
+pub mod HeadsRead

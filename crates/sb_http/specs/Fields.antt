@@ -74,3 +74,38 @@ abbrev pub TellsLength : List ℕ → HttpFault → Type 0
 TellsLength text (BadLength other) = other ≡ text
 TellsLength text Memory = Unit {0}
 TellsLength text fault = ⊥
+
+-- the first text of a declared length that differs from the first length
+abbrev pub differing_from : Option ℕ → List Pair → Option (List ℕ)
+differing_from None pairs = None
+differing_from (Some size) pairs = differing size pairs
+
+-- the one text, or else the other
+abbrev pub first_of : Option (List ℕ) → Option (List ℕ) → Option (List ℕ)
+first_of (Some text) other = Some text
+first_of None other = other
+
+-- the text of a declared length that is refused
+abbrev pub refused_length : List Pair → Option (List ℕ)
+refused_length pairs = first_of (unread pairs) (differing_from (first_length pairs) pairs)
+
+-- the framing by a declared length
+abbrev pub framing_by : Option ℕ → Framing
+framing_by (Some size) = Sized size
+framing_by None = ToEnd
+
+-- there is no body for this request, or at this status
+abbrev pub has_no_body : Bool → ℕ → Bool
+has_no_body bodiless status = bodiless || (status == 204 || status == 304)
+
+-- the framing where there is no body, or chunks, or else by the declared lengths
+abbrev pub IsFramingBy : Bool → Bool → List Pair → Result Framing HttpFault → Type 0
+IsFramingBy true chunked pairs result = result ≡ Ok Empty
+IsFramingBy false true pairs result = result ≡ Ok Chunked
+IsFramingBy false false pairs result =
+    IsRefused (refused_length pairs) result (λ framing. framing ≡ framing_by (first_length pairs))
+
+-- the framing of the response to a request, at a status, with these fields
+abbrev pub IsFraming : Bool → ℕ → List Pair → Result Framing HttpFault → Type 0
+IsFraming bodiless status pairs result =
+    IsFramingBy (has_no_body bodiless status) (list_any is_chunked pairs) pairs result

@@ -4,3 +4,4 @@ pub mod Lines
 pub mod Chunks
 pub mod Bodies
 pub mod Fields
+pub mod Heads

@@ -1,7 +1,8 @@
 //! How a response's body is delimited (RFC 9112, section 6.3).
 
 ghost use Rattle.std.specs.Prelude.{◌≡◌};
-ghost use Rattle.sb_http.specs.Fields.{IsRefused, TellsLength, differing, first_length, gives, is_chunked, is_length, length_in, unread, with_digit};
+ghost use Rattle.std.specs.List.{list_any};
+ghost use Rattle.sb_http.specs.Fields.{IsFraming, IsRefused, TellsLength, differing, first_length, framing_by, gives, has_no_body, is_chunked, is_length, length_in, refused_length, unread, with_digit};
 
 use crate::fault::HttpFault;
 use sb_base::Text;
@@ -21,6 +22,55 @@ pub(crate) enum Framing {
     Chunked,
     /// It goes to the end of the input.
     ToEnd,
+}
+
+/// How the body of a response is delimited, with this status and these headers, to a request whose response has one or not.
+pub(crate) fn framing_of(
+    alloc: Global,
+    bodiless: bool,
+    status: u16,
+    headers: &[Pair],
+) -> Result<Framing, HttpFault>
+    ensures { IsFraming bodiless status headers.now result }
+{
+    if has_no_body(bodiless, status) {
+        return Ok(Framing::Empty);
+    }
+    if any_chunked(headers) {
+        return Ok(Framing::Chunked);
+    }
+    framing_by_length(alloc, headers)
+}
+
+/// Tells whether a response has no body, to this request or with this status.
+fn has_no_body(bodiless: bool, status: u16) -> bool
+    ensures { result ≡ has_no_body bodiless status }
+{
+    bodiless || status == 204 || status == 304
+}
+
+/// Tells whether a header declares chunks.
+fn any_chunked(headers: &[Pair]) -> bool
+    ensures { result ≡ list_any is_chunked headers.now }
+{
+    headers.iter().any(|header| is_chunked(header))
+}
+
+/// How a body is delimited that isn't in chunks.
+fn framing_by_length(alloc: Global, headers: &[Pair]) -> Result<Framing, HttpFault>
+    ensures { IsRefused (refused_length headers.now) result (λ framing. framing ≡ framing_by (first_length headers.now)) }
+{
+    match refuse_unread(alloc, headers) {
+        Ok(()) => {}
+        Err(fault) => return Err(fault),
+    }
+    match first_length(headers) {
+        Some(size) => match refuse_differing(alloc, headers, size) {
+            Ok(()) => Ok(Framing::Sized(size)),
+            Err(fault) => Err(fault),
+        },
+        None => Ok(Framing::ToEnd),
+    }
 }
 
 /// Refuses a declared length that is none.

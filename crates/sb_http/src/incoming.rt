@@ -2,7 +2,7 @@
 
 ghost use Rattle.std.specs.Prelude.{◌≡◌, ◌<◌, IsErrOf};
 ghost use Rattle.sb_world.specs.Told.{CountsFaults};
-ghost use Rattle.sb_http.specs.Takings.{TakesByte, TakesInto};
+ghost use Rattle.sb_http.specs.Takings.{ReceivesInto, TakesByte, TakesInto};
 ghost use Rattle.sb_http.specs.Windows.{pending};
 
 use crate::fault::HttpFault;
@@ -56,4 +56,17 @@ pub(crate) fn take_into<W: Wire>(
         }
     }
     Ok(got)
+}
+
+/// Receives at most so many bytes behind those that wait, and answers how many came: none only at the end.
+pub(crate) fn receive_more<W: Wire>(
+    wire: &mut W,
+    window: &mut Window,
+    most: usize,
+) -> Result<usize, HttpFault>
+    requires { 0 < most }
+    ensures told { ReceivesInto (W.connections wire.old) (W.connections wire.new) (pending window.old) (pending window.new) most result }
+    ensures cause { CountsFaults (W.faults wire.old) (W.faults wire.new) (IsErrOf result HttpFault.WireFault) }
+{
+    receive_into(wire, &mut window.bytes, most)
 }

@@ -8,6 +8,7 @@ mod chunked;
 mod fault;
 mod fields;
 mod framing;
+mod head;
 mod incoming;
 mod line;
 mod reading;

@@ -1,6 +1,6 @@
 //! Bytes that came and wait to be read.
 
-ghost use Rattle.std.specs.Prelude.{◌≡◌, ◌≤◌, ◌∷◌, [], drop, vec_len};
+ghost use Rattle.std.specs.Prelude.{◌≡◌, ◌≤◌, ◌∷◌, [], drop, length, vec_len};
 
 use std::alloc::{AllocError, Global};
 
@@ -31,6 +31,21 @@ impl Window {
     {
         self.bytes.clear();
         self.start = 0;
+    }
+
+    /// The bytes that wait.
+    pub(crate) fn waiting(&self) -> &[u8]
+        ensures { result.now ≡ pending self.now }
+    {
+        &self.bytes[self.start..]
+    }
+
+    /// Passes over so many bytes that wait.
+    pub(crate) fn skip(&mut self, count: usize)
+        requires { count ≤ length (pending self.old) }
+        ensures { pending self.new ≡ drop count (pending self.old) }
+    {
+        self.start += count;
     }
 
     /// Takes the first byte that waits.
