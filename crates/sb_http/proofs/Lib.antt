@@ -5,3 +5,5 @@ pub mod ChunksRead
 pub mod ChunkedBodies
 pub mod PlainBodies
 pub mod HeadsRead
+pub mod RequestsSent
+pub mod ResponsesRead

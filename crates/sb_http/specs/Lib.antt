@@ -5,3 +5,4 @@ pub mod Chunks
 pub mod Bodies
 pub mod Fields
 pub mod Heads
+pub mod Responses

@@ -5,6 +5,7 @@
 
 mod body;
 mod chunked;
+mod exchanging;
 mod fault;
 mod fields;
 mod framing;
@@ -13,6 +14,12 @@ mod incoming;
 mod line;
 mod reading;
 mod receiving;
+mod response;
 mod window;
 
+pub use exchanging::exchange;
 pub use fault::HttpFault;
+pub use framing::MAX_LENGTH;
+pub use head::{MAX_HEAD, MAX_HEADERS, MAX_INTERIM};
+pub use reading::MAX_LINE;
+pub use response::{OTHER_LIMIT, Response};
