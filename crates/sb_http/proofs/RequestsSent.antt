@@ -4,7 +4,6 @@ use Rattle.sb_world.specs.Told.{Gains}
 use Rattle.sb_world.specs.declared.wire.Connection.{Connection}
 use Rattle.sb_world.specs.Wires.{Connects, Grows, Sends, grown}
 use Rattle.sb_http.specs.declared.fault.HttpFault.{HttpFault}
-use Rattle.sb_http.specs.declared.fault.HttpFault.TheVariants.{WireFault}
 use Rattle.sb_http.specs.declared.response.Response.{Response}
 use Rattle.sb_http.specs.Takings.{Takes}
 use Rattle.sb_http.specs.Responses.{Exchanges, ReadsResponse, SendsRequest, connection}
@@ -22,7 +21,7 @@ grown_new a b c sent received more came early late gains grows = record {
 
 -- the head of a request was sent, or the fault came
 pub head_unsent : {E : Type 0} (a b c : Option (List Connection)) (head body : List ℕ) (fault : E)
-    → Gains a b (connection [] [] false ∷ []) → Sends b c (Err {A = Unit} fault) head → SendsRequest a c (head ++ body) (Err {A = Unit} fault)
+    → Gains a b (connection [] [] false ∷ []) → Sends b c (Err fault) head → SendsRequest a c (head ++ body) (Err fault)
 head_unsent a b c head body fault begun sends =
     inr (
       sends.0,
@@ -33,7 +32,7 @@ head_unsent a b c head body fault begun sends =
 
 -- the head of a request was sent, and then the body, or the fault came
 pub head_sent : {E : Type 0} (a b c d : Option (List Connection)) (head body : List ℕ) (result : Result Unit E) (done : Unit)
-    → Gains a b (connection [] [] false ∷ []) → Sends {E} b c (Ok done) head → Sends c d result body
+    → Gains a b (connection [] [] false ∷ []) → Sends {E = E} b c (Ok done) head → Sends c d result body
     → SendsRequest a d (head ++ body) result
 head_sent a b c d head body (Ok end) done begun sends more =
     grown_new a c d head [] body [] false false (grown_new a b c [] [] head [] false false begun sends) more
@@ -67,9 +66,3 @@ answered bodiless limit a b c request waiting old new result sent none told =
       room = told.room;
       answer = told.answer;
     })
-
--- the request was not sent
-pub unsent : {E : Type 0} (bodiless : Bool) (limit : ℕ) (a b : Option (List Connection)) (request room : List ℕ) (fault : E)
-    → SendsRequest a b request (Err {A = Unit} fault) → Exchanges bodiless limit a b request room room (Err WireFault)
-unsent bodiless limit a b request room fault sent =
-    inl (record { fault = WireFault; failed = refl; outside = tt; sent = sent; room = refl })

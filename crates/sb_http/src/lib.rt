@@ -23,3 +23,4 @@ pub use framing::MAX_LENGTH;
 pub use head::{MAX_HEAD, MAX_HEADERS, MAX_INTERIM};
 pub use reading::MAX_LINE;
 pub use response::{OTHER_LIMIT, Response};
+

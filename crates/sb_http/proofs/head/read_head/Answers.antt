@@ -1,4 +1,4 @@
-use Rattle.std.proofs.Common.{[], arith, refl}
+use Rattle.std.proofs.Common.{[], ◌∷◌, ◌++◌, arith, refl}
 use Rattle.std.proofs.lemmas.List.Elements.{All-nil}
 use Rattle.sb_http.specs.Heads.{IsInterim}
 use Rattle.sb_http.proofs.HeadsRead.{head_read, head_stops, one_passed, too_many_passed}
@@ -23,9 +23,10 @@ pub loop-passed-preserved : goal.loop-passed-preserved
 loop-passed-preserved g c =
     let before = c.loop-passed.invariant in
     let told = rw c.in-Ok-None.field-0-is at c.in-Ok-None.ensures.told in
+    let heads = before.0 ++ told.0 ∷ [] in
     let more = one_passed _ _ _ _ _ _ before.0 told.0 before.1 told.1 before.4 told.2 in
     (
-      _,
+      heads,
       more.0,
       omega (arith, more.1, before.2),
       told.3,
