@@ -32,8 +32,7 @@ pub one_more : (a b c : Option (List Connection)) (p q r old mid new : List ℕ)
     → Reads a b p q old mid limit got chunks → ReadsChunk b c q r mid new limit got (Ok (Some size))
     → (more : List Chunk) × Reads a c p r old new limit (got + size) more
 one_more a b c p q r old mid new limit got size chunks before told =
-    let chunk = told.0 in
-    (
+    let chunk = told.0 in (
       chunks ++ chunk ∷ [],
       record {
         all = All-append IsChunk chunks (chunk ∷ []) before.all (All-cons IsChunk chunk [] told.1 (All-nil IsChunk));

@@ -145,8 +145,7 @@ pub whole_chunk : {a b c d : Option (List Connection)} {p q r s : List ℕ} (old
 whole_chunk {a} {c} {d} {p} {r} {s} old new limit got size came end line is some fits takes whole told ends =
     let carried = carries old new size came line takes whole told in
     let content = carried.0 in
-    let chunk : Chunk = record { line = line; content = content; end = ends.0 } in
-    (
+    let chunk : Chunk = record { line = line; content = content; end = ends.0 } in (
       chunk,
       record {
         line = subst (λ n. IsLine Size line n) (sym carried.1) is;

@@ -79,8 +79,7 @@ waits_whole a b p w spans found told =
     let h = told.0.0 in
     let at = told.0.1 in
     let whole : length w ≡ length (print_response h) + length (drop found.len w) =
-        ap (λ (xs : List ℕ). length xs) at.reads.1 ∙ length-append (print_response h) (drop found.len w) in
-    (
+    ap (λ (xs : List ℕ). length xs) at.reads.1 ∙ length-append (print_response h) (drop found.len w) in (
       h,
       record { grammar = at.reads.0; size = omega (arith, whole, told.1); lines = told.0.3 },
       at,

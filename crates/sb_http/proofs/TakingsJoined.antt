@@ -10,7 +10,7 @@ pub grown_both : (first second : List ℕ) (ended : Bool) (list : List Connectio
 grown_both first second ended [] = refl
 grown_both first second ended (newest ∷ older) =
     let with_both : List ℕ → List ℕ → Connection = λ sent received.
-        record { sent = sent; received = received; ended = cond ended true newest.ended } in
+    record { sent = sent; received = received; ended = cond ended true newest.ended } in
     ap (λ sent. with_both sent (newest.received ++ first ++ second) ∷ older) (append-nil (newest.sent ++ []))
     ∙ ap (λ received. with_both (newest.sent ++ []) received ∷ older) (append_assoc newest.received first second)
 
@@ -42,8 +42,7 @@ takes_both {p} {q} {r} {xs} {ys} {ended} first second = record {
   grows = record {
     told = λ list e.
         let late = second.grows.told list e in
-        let early = first.grows.told late.0 late.1 in
-        (
+        let early = first.grows.told late.0 late.1 in (
           early.0,
           early.1,
           late.2 ∙ ap (λ old. grown [] second.received ended old) early.2

@@ -14,10 +14,7 @@ use sb_world::Wire;
 pub(crate) const PIECE: usize = 16_384;
 
 /// Takes one byte, or none at the end.
-pub(crate) fn take_byte<W: Wire>(
-    wire: &mut W,
-    window: &mut Window,
-) -> Result<Option<u8>, HttpFault>
+pub(crate) fn take_byte<W: Wire>(wire: &mut W, window: &mut Window) -> Result<Option<u8>, HttpFault>
     ensures told { TakesByte (W.connections wire.old) (W.connections wire.new) (pending window.old) (pending window.new) result }
     ensures cause { CountsFaults (W.faults wire.old) (W.faults wire.new) (IsErrOf result HttpFault.WireFault) }
 {

@@ -24,3 +24,5 @@ pub use head::{MAX_HEAD, MAX_HEADERS, MAX_INTERIM};
 pub use reading::MAX_LINE;
 pub use response::{OTHER_LIMIT, Response};
 
+#[cfg(test)]
+mod tests;

@@ -24,8 +24,7 @@ loop-passed-preserved g c =
     let before = c.loop-passed.invariant in
     let told = rw c.in-Ok-None.field-0-is at c.in-Ok-None.ensures.told in
     let heads = before.0 ++ told.0 ∷ [] in
-    let more = one_passed _ _ _ _ _ _ before.0 told.0 before.1 told.1 before.4 told.2 in
-    (
+    let more = one_passed _ _ _ _ _ _ before.0 told.0 before.1 told.1 before.4 told.2 in (
       heads,
       more.0,
       omega (arith, more.1, before.2),

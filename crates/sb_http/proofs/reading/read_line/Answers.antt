@@ -10,8 +10,7 @@ use Rattle.sb_http.proofs.reading.read_line.Goals as goal
 pub returns-in-Ok-None-clause-told : goal.returns-in-Ok-None-clause-told
 returns-in-Ok-None-clause-told g c =
     let before = c.loop-count.invariant in
-    let told = rw c.in-Ok-None.field-0-is at c.in-Ok-None.ensures.told in
-    (
+    let told = rw c.in-Ok-None.field-0-is at c.in-Ok-None.ensures.told in (
       before.0 ++ [],
       takes_both before.3 told.1,
       (
@@ -33,8 +32,7 @@ pub returns-in-Done-clause-told : goal.returns-in-Done-clause-told
 returns-in-Done-clause-told g c =
     let before = c.loop-count.invariant in
     let byte = c.in-Ok-Some.byte in
-    let told = rw c.in-Ok-Some.field-0-is at c.in-Ok-Some.ensures.told in
-    (
+    let told = rw c.in-Ok-Some.field-0-is at c.in-Ok-Some.ensures.told in (
       before.0 ++ byte ∷ [],
       takes_both before.3 told,
       (
@@ -47,8 +45,7 @@ pub returns-in-Bad-clause-told : goal.returns-in-Bad-clause-told
 returns-in-Bad-clause-told g c =
     let before = c.loop-count.invariant in
     let byte = c.in-Ok-Some.byte in
-    let told = rw c.in-Ok-Some.field-0-is at c.in-Ok-Some.ensures.told in
-    (
+    let told = rw c.in-Ok-Some.field-0-is at c.in-Ok-Some.ensures.told in (
       before.0 ++ byte ∷ [],
       takes_both before.3 told,
       (
@@ -62,8 +59,7 @@ pub loop-count-preserved : goal.loop-count-preserved
 loop-count-preserved g c =
     let before = c.loop-count.invariant in
     let byte = c.in-Ok-Some.byte in
-    let told = rw c.in-Ok-Some.field-0-is at c.in-Ok-Some.ensures.told in
-    (
+    let told = rw c.in-Ok-Some.field-0-is at c.in-Ok-Some.ensures.told in (
       before.0 ++ byte ∷ [],
       omega (arith, length-append before.0 (byte ∷ []), before.1),
       read_more c.args.start before.0 c.loop-count.line byte before.2 ∙ sym c.after.ensures ∙ c.in-More.is,

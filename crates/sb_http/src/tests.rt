@@ -1,0 +1,318 @@
+//! Responses as stores send them, whole, in pieces and cut.
+
+ghost use Rattle.std.specs.Prelude.{None};
+
+use crate::{HttpFault, Response, exchange};
+use sb_base::Text;
+use sb_world::{Wire, WireFault};
+use std::alloc::Global;
+use std::test::Fail;
+
+/// A wire that gives a text in pieces of a size, keeps what was sent, and fails at one of its calls, counted from 1.
+#[derive(Drop)]
+struct MemoryWire {
+    answer: Vec<u8>,
+    at: usize,
+    piece: usize,
+    sent: Vec<u8>,
+    calls: u64,
+    fails: u64,
+    faults: u64,
+}
+
+impl MemoryWire {
+    /// Counts a call, and a fault where it is the one that fails.
+    fn fails_now(&mut self) -> bool {
+        self.calls = self.calls.saturating_add(1);
+        if self.calls == self.fails {
+            self.faults = self.faults.saturating_add(1);
+            return true;
+        }
+        false
+    }
+}
+
+impl Wire for MemoryWire {
+    ghost connections = { λ _. None };
+
+    ghost faults = { λ w. w.faults };
+
+    fn connect(&mut self) -> Result<(), WireFault> {
+        if self.fails_now() {
+            return Err(WireFault::Failed);
+        }
+        Ok(())
+    }
+
+    fn send(&mut self, bytes: &[u8]) -> Result<(), WireFault> {
+        if self.fails_now() || self.sent.extend_from_slice(bytes).is_err() {
+            self.faults = self.faults.saturating_add(1);
+            return Err(WireFault::Failed);
+        }
+        Ok(())
+    }
+
+    fn receive(&mut self, out: &mut [u8]) -> Result<usize, WireFault> {
+        if self.fails_now() {
+            return Err(WireFault::Failed);
+        }
+        if self.at > self.answer.len() {
+            return Ok(0);
+        }
+        let left = &self.answer[self.at..];
+        let count = left.len().min(self.piece).min(out.len());
+        out[..count].copy_from_slice(&left[..count]);
+        self.at = self.at.saturating_add(count);
+        Ok(count)
+    }
+}
+
+/// A wire over an answer.
+fn wire_of(alloc: Global, answer: &[u8], piece: usize, fails: u64) -> Result<MemoryWire, Fail> {
+    Ok(MemoryWire {
+        answer: Vec::from_slice(alloc, answer)?,
+        at: 0,
+        piece,
+        sent: Vec::new(alloc),
+        calls: 0,
+        fails,
+        faults: 0,
+    })
+}
+
+/// What is told of an answer: its fault by name, and the numbers that it carries.
+#[derive(Drop, Clone, Copy, PartialEq, Eq, Debug)]
+enum Outcome {
+    Response(u16, u64),
+    WireFault,
+    HeadCut(u64),
+    HeadTooLong,
+    BadHead,
+    TooManyHeaders,
+    BadLength,
+    BodyCut(Option<u64>, u64),
+    BadChunk(u64),
+    TooLong(u64),
+    Memory,
+}
+
+fn outcome_of(answer: &Result<Response, HttpFault>) -> Outcome {
+    match answer {
+        Ok(response) => Outcome::Response(response.status, response.length),
+        Err(HttpFault::WireFault) => Outcome::WireFault,
+        Err(HttpFault::HeadCut { got }) => Outcome::HeadCut(*got),
+        Err(HttpFault::HeadTooLong) => Outcome::HeadTooLong,
+        Err(HttpFault::BadHead) => Outcome::BadHead,
+        Err(HttpFault::TooManyHeaders) => Outcome::TooManyHeaders,
+        Err(HttpFault::BadLength(_)) => Outcome::BadLength,
+        Err(HttpFault::BodyCut { want, got }) => Outcome::BodyCut(*want, *got),
+        Err(HttpFault::BadChunk { got }) => Outcome::BadChunk(*got),
+        Err(HttpFault::TooLong { limit }) => Outcome::TooLong(*limit),
+        Err(HttpFault::Memory) => Outcome::Memory,
+    }
+}
+
+/// The answer to these bytes in pieces, with the limit 10.
+fn outcome_to(alloc: Global, answer: &[u8], piece: usize) -> Result<Outcome, Fail> {
+    let mut wire = wire_of(alloc, answer, piece, 0)?;
+    let mut room = Vec::new(alloc);
+    let answer = exchange(alloc, &mut wire, b"GET", b"", false, 10, &mut room);
+    Ok(outcome_of(&answer))
+}
+
+/// Whether the answer is this one, whole, in pieces of three bytes and byte by byte.
+fn is_answered(alloc: Global, answer: &[u8], wanted: Outcome) -> Result<bool, Fail> {
+    Ok(
+        outcome_to(alloc, answer, 100_000)? == wanted
+            && outcome_to(alloc, answer, 3)? == wanted
+            && outcome_to(alloc, answer, 1)? == wanted,
+    )
+}
+
+#[test]
+fn chunked_bodies_that_are_cut_tell_what_came(rt: HostRuntime) -> Result<(), Fail> {
+    let head = b"HTTP/1.1 200 OK\r\ntransfer-encoding: chunked\r\n\r\n5\r\n";
+    let mut hello = Vec::from_slice(rt.alloc(), head)?;
+    hello.extend_from_slice(b"hel")?;
+    assert!(rt; is_answered(rt.alloc(), &hello, Outcome::BodyCut(None, 3))?);
+    hello.extend_from_slice(b"lo")?;
+    assert!(rt; is_answered(rt.alloc(), &hello, Outcome::BodyCut(None, 5))?);
+    hello.extend_from_slice(b"XX")?;
+    assert!(rt; is_answered(rt.alloc(), &hello, Outcome::BadChunk(5))?);
+    Ok(())
+}
+
+#[test]
+fn responses_are_told_as_the_table_says(rt: HostRuntime) -> Result<(), Fail> {
+    let a = rt.alloc();
+    let rows: [(&[u8], Outcome); 21] = [
+        (b"", Outcome::HeadCut(0)),
+        (
+            b"HTTP/1.1 200 OK\r\ncontent-length: 11\r\n\r\nhello world",
+            Outcome::TooLong(10),
+        ),
+        (
+            b"HTTP/1.1 200 OK\r\ncontent-length: 5\r\ncontent-length: 6\r\n\r\nhello",
+            Outcome::BadLength,
+        ),
+        (
+            b"HTTP/1.1 200 OK\r\ncontent-length: 5x\r\n\r\nhello",
+            Outcome::BadLength,
+        ),
+        (
+            b"HTTP/1.1 200 OK\r\ncontent-length: 9223372036854775808\r\n\r\n",
+            Outcome::BadLength,
+        ),
+        (
+            b"HTTP/1.1 204 No Content\r\n\r\njunk",
+            Outcome::Response(204, 0),
+        ),
+        (
+            b"HTTP/1.1 304 Not Modified\r\nContent-Length: 99\r\n\r\n",
+            Outcome::Response(304, 0),
+        ),
+        (
+            b"HTTP/1.1 200\r\nContent-Length: 5\r\nContent-Length: 05\r\n\r\nhello!",
+            Outcome::Response(200, 5),
+        ),
+        (
+            b"HTTP/1.1 200 OK\r\nContent-Length: 5\r\n\r\nhel",
+            Outcome::BodyCut(Some(5), 3),
+        ),
+        (b"HTTP/1.0 200 OK\r\n\r\nhello", Outcome::Response(200, 5)),
+        (
+            b"HTTP/1.0 200 OK\r\n\r\nhello worl",
+            Outcome::Response(200, 10),
+        ),
+        (b"HTTP/1.0 200 OK\r\n\r\nhello world", Outcome::TooLong(10)),
+        (
+            b"HTTP/1.1 100 Continue\r\n\r\nHTTP/1.1 200 OK\r\ncontent-length: 0\r\n\r\n",
+            Outcome::Response(200, 0),
+        ),
+        (
+            b"HTTP/1.1 200 OK\r\ntransfer-encoding: CHUNKED\r\ncontent-length: 1\r\n\r\n0005;a=b\r\nhello\r\n0\r\nx: y\r\n\r\nmore",
+            Outcome::Response(200, 5),
+        ),
+        (
+            b"HTTP/1.1 200 OK\r\ntransfer-encoding: chunked\r\n\r\nA\r\nhello worl\r\n0\r\n\r\n",
+            Outcome::Response(200, 10),
+        ),
+        (
+            b"HTTP/1.1 200 OK\r\ntransfer-encoding: chunked\r\n\r\n5\r\nhello\r\n6\r\n",
+            Outcome::TooLong(10),
+        ),
+        (
+            b"HTTP/1.1 200 OK\r\ntransfer-encoding: chunked\r\n\r\n10000000000000005\r\nhello\r\n",
+            Outcome::TooLong(10),
+        ),
+        (
+            b"HTTP/1.1 200 OK\r\ntransfer-encoding: chunked\r\n\r\nxyz",
+            Outcome::BadChunk(0),
+        ),
+        (
+            b"HTTP/1.1 200 OK\r\ntransfer-encoding: chunked\r\n\r\n0\r\nx: y\r\n",
+            Outcome::BodyCut(None, 0),
+        ),
+        (
+            b"HTTP/1.1 200 OK\r\ntransfer-encoding: gzip, chunked\r\n\r\n5\r\nhello",
+            Outcome::Response(200, 8),
+        ),
+        (b"HTTX/1.1 200 OK\r\n\r\n", Outcome::BadHead),
+    ];
+    for (answer, wanted) in rows {
+        assert!(rt; is_answered(a, answer, wanted)?);
+    }
+    Ok(())
+}
+
+#[test]
+fn a_missing_object_tells_its_text(rt: HostRuntime) -> Result<(), Fail> {
+    let mut answer = Vec::from_slice(
+        rt.alloc(),
+        b"HTTP/1.1 404 Not Found\r\ncontent-length: 300\r\n\r\n",
+    )?;
+    answer.resize(answer.len() + 300, b'x')?;
+    assert!(rt; is_answered(rt.alloc(), &answer, Outcome::Response(404, 300))?);
+    Ok(())
+}
+
+#[test]
+fn a_ninth_interim_response_is_a_bad_head(rt: HostRuntime) -> Result<(), Fail> {
+    let mut answer = Vec::new(rt.alloc());
+    for _ in 0..8 {
+        answer.extend_from_slice(b"HTTP/1.1 103 Early Hints\r\n\r\n")?;
+    }
+    let mut ninth = answer.clone()?;
+    answer.extend_from_slice(b"HTTP/1.1 204 No Content\r\n\r\n")?;
+    ninth.extend_from_slice(b"HTTP/1.1 103 Early Hints\r\n\r\nHTTP/1.1 204 No Content\r\n\r\n")?;
+    assert!(rt; is_answered(rt.alloc(), &answer, Outcome::Response(204, 0))?);
+    assert!(rt; is_answered(rt.alloc(), &ninth, Outcome::BadHead)?);
+    Ok(())
+}
+
+#[test]
+fn long_heads_are_refused(rt: HostRuntime) -> Result<(), Fail> {
+    let mut answer = Vec::from_slice(rt.alloc(), b"HTTP/1.1 200 OK\r\nx: ")?;
+    answer.resize(16_384, b'y')?;
+    assert!(rt; outcome_to(rt.alloc(), &answer, 100_000)? == Outcome::HeadTooLong);
+    answer.truncate(16_383);
+    assert!(rt; outcome_to(rt.alloc(), &answer, 5000)? == Outcome::HeadCut(16_383));
+    let mut many = Vec::from_slice(rt.alloc(), b"HTTP/1.1 204 No Content\r\n")?;
+    for _ in 0..64 {
+        many.extend_from_slice(b"a: b\r\n")?;
+    }
+    let mut more = many.clone()?;
+    many.extend_from_slice(b"\r\n")?;
+    more.extend_from_slice(b"a: b\r\n\r\n")?;
+    assert!(rt; outcome_to(rt.alloc(), &many, 100_000)? == Outcome::Response(204, 0));
+    assert!(rt; outcome_to(rt.alloc(), &more, 100_000)? == Outcome::TooManyHeaders);
+    Ok(())
+}
+
+#[test]
+fn a_response_keeps_its_fields_and_the_room_its_bytes(rt: HostRuntime) -> Result<(), Fail> {
+    let mut wire = wire_of(
+        rt.alloc(),
+        b"HTTP/1.1 200 OK\r\nETag:  \"a\" \r\nContent-Length: 5\r\n\r\nhello",
+        7,
+        0,
+    )?;
+    let mut room = Vec::from_slice(rt.alloc(), b"old ")?;
+    let response = exchange(rt.alloc(), &mut wire, b"PUT", b" it", false, 10, &mut room)
+        .ok()
+        .ok_or("a response")?;
+    assert!(rt; response.headers.len() == 2);
+    let tag = &response.headers[0];
+    assert!(rt; tag.name.bytes() == b"etag".as_slice());
+    assert!(rt; tag.value.bytes() == b"\"a\"".as_slice());
+    assert!(rt; room.as_slice() == b"old hello".as_slice());
+    assert!(rt; wire.sent.as_slice() == b"PUT it".as_slice());
+    Ok(())
+}
+
+#[test]
+fn each_call_of_the_wire_may_fail(rt: HostRuntime) -> Result<(), Fail> {
+    let answer = b"HTTP/1.1 200 OK\r\ncontent-length: 5\r\n\r\nhello";
+    for fails in 1..8 {
+        let mut wire = wire_of(rt.alloc(), answer, 10, fails)?;
+        let mut room = Vec::new(rt.alloc());
+        let answer = exchange(rt.alloc(), &mut wire, b"GET", b"", false, 10, &mut room);
+        assert!(rt; outcome_of(&answer) == Outcome::WireFault);
+    }
+    Ok(())
+}
+
+#[test]
+fn a_response_that_is_cut_tells_how_much_came(rt: HostRuntime) -> Result<(), Fail> {
+    let answer = b"HTTP/1.1 200 OK\r\ncontent-length: 5\r\n\r\nhello".as_slice();
+    let head = answer.len() - 5;
+    for cut in 0..answer.len() {
+        let wanted = if cut < head {
+            Outcome::HeadCut(cut as u64)
+        } else {
+            Outcome::BodyCut(Some(5), (cut - head) as u64)
+        };
+        assert!(rt; outcome_to(rt.alloc(), &answer[..cut], 4)? == wanted);
+    }
+    Ok(())
+}
