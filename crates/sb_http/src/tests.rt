@@ -1,6 +1,6 @@
 //! Responses as stores send them, whole, in pieces and cut.
 
-ghost use Rattle.std.specs.Prelude.{None};
+ghost use Rattle.std.specs.Prelude.{◌≡◌, None};
 
 use crate::{HttpFault, Response, exchange};
 use sb_base::Text;
@@ -21,14 +21,12 @@ struct MemoryWire {
 }
 
 impl MemoryWire {
-    /// Counts a call, and a fault where it is the one that fails.
-    fn fails_now(&mut self) -> bool {
+    /// Counts a call, and tells whether it fails.
+    fn fails_now(&mut self) -> bool
+        ensures { self.new.faults ≡ self.old.faults }
+    {
         self.calls = self.calls.saturating_add(1);
-        if self.calls == self.fails {
-            self.faults = self.faults.saturating_add(1);
-            return true;
-        }
-        false
+        self.calls == self.fails
     }
 }
 
@@ -39,6 +37,7 @@ impl Wire for MemoryWire {
 
     fn connect(&mut self) -> Result<(), WireFault> {
         if self.fails_now() {
+            self.faults = self.faults.saturating_add(1);
             return Err(WireFault::Failed);
         }
         Ok(())
@@ -54,6 +53,7 @@ impl Wire for MemoryWire {
 
     fn receive(&mut self, out: &mut [u8]) -> Result<usize, WireFault> {
         if self.fails_now() {
+            self.faults = self.faults.saturating_add(1);
             return Err(WireFault::Failed);
         }
         if self.at > self.answer.len() {
