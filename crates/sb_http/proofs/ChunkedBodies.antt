@@ -1,12 +1,12 @@
 -- How chunks join to a body.
-use Rattle.std.proofs.Common.{ℕ, ◌≡◌, ◌≤◌, ◌<◌, ◌+◌, ◌∙◌, Bool, true, false, All, List, [], ◌∷◌, ◌++◌, length, Option, Some, None, Result, Ok, Err, ap, sym, subst, refl, arith, append-nil, append_assoc, length-append, add-zero}
+use Rattle.std.proofs.Common.{ℕ, ◌≡◌, ◌≤◌, ◌+◌, ◌∙◌, false, All, List, [], ◌∷◌, ◌++◌, length, Option, Some, None, Ok, Err, ap, sym, subst, refl, arith, append-nil, append_assoc, length-append, add-zero}
 use Rattle.std.proofs.lemmas.Grind.{flat_map-append}
 use Rattle.std.proofs.lemmas.List.Elements.{All-append, All-cons, All-nil}
 use Rattle.sb_world.specs.declared.wire.Connection.{Connection}
-use Rattle.sb_http.specs.declared.line.Line.TheVariants.{Size, TrailerLine}
+use Rattle.sb_http.specs.declared.line.Line.TheVariants.{TrailerLine}
 use Rattle.sb_http.specs.declared.framing.Framing.TheVariants.{Chunked}
 use Rattle.sb_http.specs.declared.fault.HttpFault.{HttpFault}
-use Rattle.sb_http.specs.Lines.{IsLine, ReadsLine}
+use Rattle.sb_http.specs.Lines.{ReadsLine}
 use Rattle.sb_http.specs.Takings.{Takes}
 use Rattle.sb_http.specs.Chunks.{Chunk, IsChunk, content_of, content_at, print_chunk, print_chunks, print_place, in_trailer, ReadsChunk, StopsAt, IsPlace, EndsChunks}
 use Rattle.sb_http.specs.Bodies.{ReadsBody}

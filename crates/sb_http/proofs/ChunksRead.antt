@@ -1,13 +1,13 @@
 -- How the parts of a chunk join.
-use Rattle.std.proofs.Common.{ℕ, ◌≡◌, ◌≤◌, ◌<◌, ◌+◌, ◌∙◌, Bool, true, false, List, [], ◌∷◌, ◌++◌, length, Option, Some, None, Result, Ok, Err, ap, sym, subst, refl, arith, add-zero, append-nil, append_assoc, length-append}
+use Rattle.std.proofs.Common.{ℕ, ◌≡◌, ◌≤◌, ◌<◌, ◌+◌, ◌∙◌, Bool, true, false, List, [], ◌++◌, length, Option, Some, None, Ok, Err, sym, subst, refl, arith, add-zero, append-nil, append_assoc}
 use Rattle.sb_world.specs.declared.wire.Connection.{Connection}
 use Rattle.sb_http.specs.declared.line.Line.{Line}
-use Rattle.sb_http.specs.declared.line.Line.TheVariants.{Size, ChunkEnd, TrailerLine}
+use Rattle.sb_http.specs.declared.line.Line.TheVariants.{Size, ChunkEnd}
 use Rattle.sb_http.specs.declared.fault.HttpFault.{HttpFault}
 use Rattle.sb_http.specs.declared.fault.HttpFault.TheVariants.{WireFault, HeadCut, HeadTooLong, BadHead, TooManyHeaders, BadLength, BodyCut, BadChunk, TooLong, Memory}
 use Rattle.sb_http.specs.Lines.{IsLine, IsBadLine, IsCutLine, ReadsLine}
 use Rattle.sb_http.specs.Takings.{Takes, IsOutside, TakesInto}
-use Rattle.sb_http.specs.Chunks.{Chunk, EndsChunks, ReadsChunk, StopsAt, IsBad, IsCut, IsPlace, Place, content_at, in_size, in_content, in_end, in_trailer}
+use Rattle.sb_http.specs.Chunks.{Chunk, EndsChunks, ReadsChunk, StopsAt, IsBad, IsCut, Place, content_at, in_size, in_content, in_end}
 use Rattle.sb_http.proofs.TakingsJoined.{takes_both}
 
 -- a fault from outside ends the reading anywhere

@@ -1,5 +1,5 @@
 -- A buffer that is filled from a place on.
-use Rattle.std.proofs.Common.{ℕ, suc, zero, ◌≡◌, ◌≤◌, ◌<◌, ◌+◌, ◌-◌, ◌∙◌, Bool, true, false, List, [], ◌∷◌, ◌++◌, ap, subst, sym, length, take, refl, arith, append-nil, Option, Some, Result, Ok, Err, length-append}
+use Rattle.std.proofs.Common.{ℕ, suc, zero, ◌≡◌, ◌≤◌, ◌<◌, ◌+◌, ◌-◌, ◌∙◌, false, List, [], ◌∷◌, ◌++◌, ap, subst, sym, length, take, refl, arith, append-nil, Option, Result, Ok, Err, length-append}
 use Rattle.std.proofs.lemmas.List.{length-take-le, take-append-le}
 use Rattle.std.proofs.Math.Seq.{take-append-add, take-length}
 use Rattle.sb_world.specs.declared.wire.Connection.{Connection}

@@ -1,18 +1,17 @@
 -- Heads that wait, and are taken.
-use Rattle.std.proofs.Common.{ℕ, ◌≡◌, ◌≢◌, ◌≤◌, ◌<◌, ◌+◌, ◌∙◌, ◌⊎◌, Bool, true, false, All, List, [], ◌∷◌, ◌++◌, length, map, take, drop, Option, Some, None, Result, Ok, Err, ap, sym, subst, refl, arith, inl, inr, append-nil, append_assoc, length-append}
+use Rattle.std.proofs.Common.{ℕ, ◌≡◌, ◌≢◌, ◌≤◌, ◌+◌, ◌∙◌, true, false, All, List, [], ◌∷◌, ◌++◌, length, drop, Option, Some, Ok, Err, ap, sym, subst, refl, arith, inl, inr, append-nil, length-append}
 use Rattle.std.proofs.lemmas.Grind.{flat_map-append}
 use Rattle.std.proofs.lemmas.List.Elements.{All-append, All-cons, All-nil}
 use Rattle.httparse.specs.declared.spans.HeaderSpan.{HeaderSpan}
 use Rattle.httparse.specs.declared.spans.ResponseSpans.{ResponseSpans}
-use Rattle.httparse.specs.Grammar.{ResponseHead, print_response, status_code, HasNoResponse, MayBecomeResponse}
-use Rattle.httparse.specs.Spans.{IsResponseAt, IsHeaderWithin, header_bytes, name_and_value}
+use Rattle.httparse.specs.Grammar.{ResponseHead, print_response, HasNoResponse, MayBecomeResponse}
+use Rattle.httparse.specs.Spans.{IsResponseAt}
 use Rattle.sb_world.specs.declared.wire.Connection.{Connection}
 use Rattle.sb_http.specs.declared.head.Head.{Head}
-use Rattle.sb_http.specs.declared.head.TheConstants.{MAX_HEAD, MAX_HEADERS, MAX_INTERIM}
+use Rattle.sb_http.specs.declared.head.TheConstants.{MAX_HEAD, MAX_INTERIM}
 use Rattle.sb_http.specs.declared.fault.HttpFault.{HttpFault}
 use Rattle.sb_http.specs.declared.fault.HttpFault.TheVariants.{HeadCut, BadHead, Memory}
-use Rattle.sb_http.specs.Fields.{pair_of}
-use Rattle.sb_http.specs.Heads.{FindsHead, IsHead, IsInterim, ReadsHead, StopsInHead, TakesHead, is_interim, print_heads}
+use Rattle.sb_http.specs.Heads.{FindsHead, IsHead, IsInterim, ReadsHead, StopsInHead, TakesHead, print_heads}
 use Rattle.sb_http.specs.Takings.{Takes, ReceivesInto, is_nothing}
 use Rattle.sb_http.proofs.TakingsJoined.{something, takes_both, takes_received}
 

@@ -1,8 +1,8 @@
 -- Lines that are read byte by byte.
-use Rattle.std.proofs.Common.{Bool, true, false, Option, Result, Ok, Err, ℕ, ◌≡◌, ◌∙◌, List, [], ◌∷◌, ◌++◌, fold, ap, sym, subst, refl}
+use Rattle.std.proofs.Common.{false, Option, Err, ℕ, ◌≡◌, ◌∙◌, List, [], ◌∷◌, ◌++◌, fold, ap, sym, subst, refl}
 use Rattle.sb_http.specs.declared.line.Line.{Line}
 use Rattle.sb_http.specs.declared.line.Step.{Step}
-use Rattle.sb_http.specs.declared.line.Step.TheVariants.{More, Done, Bad}
+use Rattle.sb_http.specs.declared.line.Step.TheVariants.{More}
 use Rattle.sb_http.specs.declared.fault.HttpFault.{HttpFault}
 use Rattle.sb_http.specs.declared.fault.HttpFault.TheVariants.{WireFault, HeadCut, HeadTooLong, BadHead, TooManyHeaders, BadLength, BodyCut, BadChunk, TooLong, Memory}
 use Rattle.sb_world.specs.declared.wire.Connection.{Connection}

@@ -1,7 +1,7 @@
 -- Bodies of a declared length, and to the end of the input.
-use Rattle.std.proofs.Common.{ℕ, ◌≡◌, ◌≤◌, ◌<◌, ◌+◌, ◌∙◌, Bool, true, false, List, [], ◌∷◌, ◌++◌, length, Option, Some, None, Result, Ok, Err, ap, sym, subst, refl, arith, append-nil, append_assoc}
+use Rattle.std.proofs.Common.{ℕ, ◌≤◌, ◌<◌, true, false, List, [], ◌∷◌, ◌++◌, length, Option, Some, None, Ok, Err, sym, subst, refl, arith, append-nil}
 use Rattle.sb_world.specs.declared.wire.Connection.{Connection}
-use Rattle.sb_http.specs.declared.framing.Framing.TheVariants.{Empty, Sized, Chunked, ToEnd}
+use Rattle.sb_http.specs.declared.framing.Framing.TheVariants.{Empty, Sized, ToEnd}
 use Rattle.sb_http.specs.declared.fault.HttpFault.{HttpFault}
 use Rattle.sb_http.specs.declared.fault.HttpFault.TheVariants.{WireFault, HeadCut, HeadTooLong, BadHead, TooManyHeaders, BadLength, BodyCut, BadChunk, TooLong, Memory}
 use Rattle.sb_http.specs.Takings.{Takes, TakesByte, TakesInto, IsOutside}

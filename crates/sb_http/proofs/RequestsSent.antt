@@ -1,11 +1,10 @@
 -- What was sent and received on a new connection.
-use Rattle.std.proofs.Common.{ℕ, ◌≡◌, ◌∙◌, ◌⊎◌, Bool, true, false, cond, List, [], ◌∷◌, ◌++◌, Option, Some, Result, Ok, Err, ap, sym, subst, refl, inl, inr, append-nil, append_assoc}
+use Rattle.std.proofs.Common.{ℕ, ◌≡◌, ◌∙◌, Bool, true, false, cond, List, [], ◌∷◌, ◌++◌, Option, Result, Ok, Err, ap, sym, subst, refl, inr, append-nil, append_assoc}
 use Rattle.sb_world.specs.Told.{Gains}
 use Rattle.sb_world.specs.declared.wire.Connection.{Connection}
-use Rattle.sb_world.specs.Wires.{Connects, Grows, Sends, grown}
+use Rattle.sb_world.specs.Wires.{Grows, Sends, grown}
 use Rattle.sb_http.specs.declared.fault.HttpFault.{HttpFault}
 use Rattle.sb_http.specs.declared.response.Response.{Response}
-use Rattle.sb_http.specs.Takings.{Takes}
 use Rattle.sb_http.specs.Responses.{Exchanges, ReadsResponse, SendsRequest, connection}
 
 -- a connection that was begun has grown

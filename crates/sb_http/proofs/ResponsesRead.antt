@@ -1,17 +1,14 @@
 -- How heads and a body join to a response.
-use Rattle.std.proofs.Common.{ℕ, ◌≡◌, ◌∙◌, ◌⊎◌, Bool, true, false, List, [], ◌∷◌, ◌++◌, length, Option, Some, None, Result, Ok, Err, ap, sym, subst, refl, inl, inr, append-nil, append_assoc}
-use Rattle.httparse.specs.Grammar.{status_code}
+use Rattle.std.proofs.Common.{ℕ, ◌≡◌, ◌∙◌, Bool, false, List, [], Option, Result, Ok, Err, ap, sym, subst, refl, inl, inr, append-nil}
 use Rattle.sb_sign.specs.declared.request.Pair.{Pair}
 use Rattle.sb_world.specs.declared.wire.Connection.{Connection}
 use Rattle.sb_http.specs.declared.framing.Framing.{Framing}
 use Rattle.sb_http.specs.declared.fault.HttpFault.{HttpFault}
 use Rattle.sb_http.specs.declared.head.Head.{Head}
-use Rattle.sb_http.specs.declared.response.Response.{Response}
 use Rattle.sb_http.specs.Bodies.{IsBody, ReadsBody}
 use Rattle.sb_http.specs.Fields.{IsFraming}
 use Rattle.sb_http.specs.Heads.{ReadsHead}
-use Rattle.sb_http.specs.Responses.{AreHeads, HasBody, ReadsResponse, bound_of, pairs_of}
-use Rattle.sb_http.specs.Takings.{Takes}
+use Rattle.sb_http.specs.Responses.{HasBody, ReadsResponse, bound_of}
 use Rattle.sb_http.proofs.TakingsJoined.{takes_both}
 
 -- the reading ended in the heads

@@ -1,5 +1,5 @@
 -- How takings join.
-use Rattle.std.proofs.Common.{ℕ, ◌≡◌, ◌∙◌, ◌+◌, ◌≤◌, ◌≢◌, zero, suc, Ok, length, length-append, subst, cond, arith, Bool, true, false, List, [], ◌∷◌, ◌++◌, Option, Some, append_assoc, append-nil, ap, sym, refl}
+use Rattle.std.proofs.Common.{ℕ, ◌≡◌, ◌∙◌, ◌+◌, ◌≢◌, zero, suc, Ok, length, length-append, subst, cond, arith, Bool, true, false, List, [], ◌∷◌, ◌++◌, Option, append_assoc, append-nil, ap, sym, refl}
 use Rattle.sb_world.specs.declared.wire.Connection.{Connection}
 use Rattle.sb_world.specs.Wires.{grown, Grows}
 use Rattle.sb_http.specs.Takings.{Takes, ReceivesInto, is_nothing}

@@ -1,10 +1,10 @@
 -- Bodies of responses (RFC 9112, section 6).
-use Rattle.std.specs.Prelude.{ℕ, ◌≡◌, ◌≤◌, ◌<◌, ◌+◌, Bool, true, false, List, [], ◌∷◌, ◌++◌, length, All, Option, Some, None, Result, Ok, Err}
+use Rattle.std.specs.Prelude.{ℕ, ◌≡◌, ◌≤◌, ◌<◌, ◌+◌, Bool, true, false, List, [], ◌∷◌, ◌++◌, length, All, Option, Some, Result, Ok, Err}
 use Rattle.sb_world.specs.declared.wire.Connection.{Connection}
 use Rattle.sb_http.specs.declared.framing.Framing.{Framing}
 use Rattle.sb_http.specs.declared.framing.Framing.TheVariants.{Empty, Sized, Chunked, ToEnd}
 use Rattle.sb_http.specs.declared.fault.HttpFault.{HttpFault}
-use Rattle.sb_http.specs.declared.fault.HttpFault.TheVariants.{BodyCut, BadChunk, TooLong}
+use Rattle.sb_http.specs.declared.fault.HttpFault.TheVariants.{BodyCut, TooLong}
 use Rattle.sb_http.specs.Takings.{Takes, IsOutside}
 use Rattle.sb_http.specs.Chunks.{Chunk, IsChunk, print_chunks, content_of, Place, IsPlace, print_place, content_at, EndsChunks}
 

@@ -1,5 +1,5 @@
 -- Bodies in chunks (RFC 9112, section 7.1).
-use Rattle.std.specs.Prelude.{ℕ, ◌≡◌, ◌≤◌, ◌<◌, ◌+◌, Bool, true, false, List, [], ◌++◌, length, All, Option, Some, None, Result, Ok, Err}
+use Rattle.std.specs.Prelude.{ℕ, ◌≡◌, ◌≤◌, ◌<◌, ◌+◌, Bool, true, false, List, [], ◌++◌, length, Option, Some, None, Result, Ok, Err}
 use Rattle.std.specs.List.{flat_map}
 use Rattle.sb_world.specs.declared.wire.Connection.{Connection}
 use Rattle.sb_http.specs.declared.line.Line.TheVariants.{Size, ChunkEnd, TrailerLine}

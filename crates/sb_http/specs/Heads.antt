@@ -9,7 +9,7 @@ use Rattle.sb_world.specs.declared.wire.Connection.{Connection}
 use Rattle.sb_http.specs.declared.head.Head.{Head}
 use Rattle.sb_http.specs.declared.head.TheConstants.{MAX_HEAD, MAX_HEADERS, MAX_INTERIM}
 use Rattle.sb_http.specs.declared.fault.HttpFault.{HttpFault}
-use Rattle.sb_http.specs.declared.fault.HttpFault.TheVariants.{WireFault, HeadCut, HeadTooLong, BadHead, TooManyHeaders, Memory}
+use Rattle.sb_http.specs.declared.fault.HttpFault.TheVariants.{HeadCut, HeadTooLong, BadHead, TooManyHeaders}
 use Rattle.sb_http.specs.Fields.{pair_of}
 use Rattle.sb_http.specs.Takings.{Takes, IsOutside}
 

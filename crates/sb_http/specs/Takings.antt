@@ -1,10 +1,9 @@
 -- What is taken of the bytes that a wire receives.
 use Rattle.std.specs.Prelude.{ℕ, ◌≡◌, ◌≤◌, ◌<◌, ◌+◌, zero, Bool, true, false, List, [], ◌∷◌, ◌++◌, length, take, Option, Some, None, Result, Ok, Err}
-use Rattle.sb_world.specs.Told.{Gains}
 use Rattle.sb_world.specs.Wires.{Grows}
 use Rattle.sb_world.specs.declared.wire.Connection.{Connection}
 use Rattle.sb_http.specs.declared.fault.HttpFault.{HttpFault}
-use Rattle.sb_http.specs.declared.fault.HttpFault.TheVariants.{WireFault, HeadCut, HeadTooLong, BadHead, TooManyHeaders, BadLength, BodyCut, BadChunk, TooLong, Memory}
+use Rattle.sb_http.specs.declared.fault.HttpFault.TheVariants.{WireFault, Memory}
 
 -- these bytes were taken: what waited before and what was received since are these bytes and what waits now
 pub record Takes (before now : Option (List Connection)) (ahead left bytes : List ℕ) (ended : Bool) : Type 0 where

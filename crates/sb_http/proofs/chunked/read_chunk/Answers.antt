@@ -1,4 +1,4 @@
-use Rattle.std.proofs.Common.{◌≡◌, ◌≤◌, ◌<◌, ◌+◌, ◌-◌, ℕ, arith}
+use Rattle.std.proofs.Common.{arith}
 use Rattle.sb_http.proofs.ChunksRead.{cut_in_content, stops_in_content, stops_in_end, stops_in_size, stops_long, whole_chunk}
 use Rattle.sb_http.proofs.chunked.read_chunk.Goals as goal
 

@@ -1,4 +1,4 @@
-use Rattle.std.proofs.Common.{List, [], arith, append-nil, sym, refl}
+use Rattle.std.proofs.Common.{[], arith, append-nil, sym, refl}
 use Rattle.std.proofs.lemmas.List.Elements.{All-nil}
 use Rattle.sb_http.specs.Chunks.{IsChunk}
 use Rattle.sb_http.proofs.TakingsJoined.{takes_nothing}

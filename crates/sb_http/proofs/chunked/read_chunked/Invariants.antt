@@ -1,4 +1,4 @@
-use Rattle.std.proofs.Common.{ℕ, List, ◌-◌, ◌≤◌}
+use Rattle.std.proofs.Common.{List, ◌-◌, ◌≤◌}
 use Rattle.sb_http.specs.Chunks.{Chunk}
 use Rattle.sb_http.specs.Windows.{pending}
 use Rattle.sb_http.proofs.ChunkedBodies.{Reads}

@@ -1,4 +1,4 @@
-use Rattle.std.proofs.Common.{ℕ, List, [], length, ◌-◌, ◌≡◌, ◌≤◌, false}
+use Rattle.std.proofs.Common.{[], length, ◌-◌, ◌≡◌, ◌≤◌, false}
 use Rattle.sb_http.specs.declared.head.TheConstants.{MAX_HEAD, MAX_HEADERS}
 use Rattle.sb_http.specs.Takings.{Takes}
 use Rattle.sb_http.specs.Windows.{pending}

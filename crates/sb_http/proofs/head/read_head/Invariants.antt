@@ -1,4 +1,4 @@
-use Rattle.std.proofs.Common.{ℕ, List, length, All, ◌≡◌, ◌≤◌, false}
+use Rattle.std.proofs.Common.{List, length, All, ◌≡◌, ◌≤◌, false}
 use Rattle.httparse.specs.Grammar.{ResponseHead}
 use Rattle.sb_http.specs.declared.head.TheConstants.{MAX_HEAD}
 use Rattle.sb_http.specs.Heads.{IsInterim, print_heads}

@@ -1,7 +1,7 @@
-use Rattle.std.proofs.Common.{rules, ◌≡◌, ◌<◌, ℕ, ◌+◌, ◌-◌, ◌∙◌, ◌≤◌, length, List, [], ◌∷◌, ◌++◌, Bool, true, false, ap, sym, subst, refl, arith, append_assoc, append-nil, length-append}
-use Rattle.sb_http.specs.Takings.{TakesInto, Takes, ReceivesInto, is_nothing}
+use Rattle.std.proofs.Common.{◌≡◌, ◌∙◌, [], true, sym, subst, refl, arith, append-nil}
+use Rattle.sb_http.specs.Takings.{is_nothing}
 use Rattle.sb_http.specs.Windows.{pending}
-use Rattle.sb_http.proofs.TakingsJoined.{takes_both, takes_nothing, takes_received, takes_waiting, more_taken, some_taken}
+use Rattle.sb_http.proofs.TakingsJoined.{takes_waiting, more_taken, some_taken}
 use Rattle.sb_http.proofs.incoming.take_into.Goals as goal
 
 pub returns-in-Err-clause-told : goal.returns-in-Err-clause-told

@@ -1,8 +1,6 @@
-use Rattle.std.proofs.Common.{◌≡◌, ◌∙◌, ◌+◌, ◌≤◌, ◌<◌, ℕ, length, List, [], ◌∷◌, ◌++◌, inl, refl, sym, subst, arith, append-nil, length-append}
-use Rattle.sb_http.specs.declared.line.Step.TheVariants.{More, Done, Bad}
-use Rattle.sb_http.specs.Lines.{ReadsLine, read_from, IsOpen}
-use Rattle.sb_http.specs.Takings.{Takes}
-use Rattle.sb_http.specs.Windows.{pending}
+use Rattle.std.proofs.Common.{◌≡◌, ◌∙◌, ℕ, List, [], ◌∷◌, ◌++◌, inl, refl, sym, subst, arith, append-nil, length-append}
+use Rattle.sb_http.specs.declared.line.Step.TheVariants.{More}
+use Rattle.sb_http.specs.Lines.{read_from}
 use Rattle.sb_http.proofs.LinesRead.{is_open, outside_line, read_more}
 use Rattle.sb_http.proofs.TakingsJoined.{takes_both}
 use Rattle.sb_http.proofs.reading.read_line.Goals as goal

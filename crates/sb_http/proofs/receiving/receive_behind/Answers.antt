@@ -1,4 +1,4 @@
-use Rattle.std.proofs.Common.{ℕ, rules, length, ◌-◌, arith}
+use Rattle.std.proofs.Common.{rules}
 use Rattle.std.proofs.lemmas.Slice.{overwrites}
 use Rattle.sb_http.proofs.FilledVectors.{received_behind}
 use Rattle.sb_http.proofs.receiving.receive_behind.Goals as goal
