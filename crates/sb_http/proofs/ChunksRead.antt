@@ -1,17 +1,21 @@
 -- How the parts of a chunk join.
-use Rattle.std.proofs.Common.{ℕ, ◌≡◌, ◌≤◌, ◌<◌, ◌+◌, ◌∙◌, Bool, true, false, List, [], ◌++◌, length, Option, Some, None, Ok, Err, sym, subst, refl, arith, add-zero, append-nil, append_assoc}
+use Rattle.std.proofs.Common.{ℕ, ◌≡◌, ◌≤◌, ◌<◌, ◌+◌, ◌∙◌, Bool, true, false, List, [], ◌++◌, length, Option, Some, None}
+use Rattle.std.proofs.Common.{Ok, Err, sym, subst, refl, arith, add-zero, append-nil, append_assoc}
 use Rattle.sb_world.specs.declared.wire.Connection.{Connection}
 use Rattle.sb_http.specs.declared.line.Line.{Line}
 use Rattle.sb_http.specs.declared.line.Line.TheVariants.{Size, ChunkEnd}
 use Rattle.sb_http.specs.declared.fault.HttpFault.{HttpFault}
-use Rattle.sb_http.specs.declared.fault.HttpFault.TheVariants.{WireFault, HeadCut, HeadTooLong, BadHead, TooManyHeaders, BadLength, BodyCut, BadChunk, TooLong, Memory}
+use Rattle.sb_http.specs.declared.fault.HttpFault.TheVariants.{WireFault, HeadCut, HeadTooLong, BadHead, TooManyHeaders}
+use Rattle.sb_http.specs.declared.fault.HttpFault.TheVariants.{BadLength, BodyCut, BadChunk, TooLong, Memory}
 use Rattle.sb_http.specs.Lines.{IsLine, IsBadLine, IsCutLine, ReadsLine}
 use Rattle.sb_http.specs.Takings.{Takes, IsOutside, TakesInto}
-use Rattle.sb_http.specs.Chunks.{Chunk, EndsChunks, ReadsChunk, StopsAt, IsBad, IsCut, Place, content_at, in_size, in_content, in_end}
+use Rattle.sb_http.specs.Chunks.{Chunk, EndsChunks, ReadsChunk, StopsAt, IsBad, IsCut, Place, content_at, in_size}
+use Rattle.sb_http.specs.Chunks.{in_content, in_end}
 use Rattle.sb_http.proofs.TakingsJoined.{takes_both}
 
 -- a fault from outside ends the reading anywhere
-pub outside_ends : (limit got : ℕ) (place : Place) (left : List ℕ) (fault : HttpFault) → IsOutside fault → EndsChunks limit got place left false (Err fault)
+pub outside_ends : (limit got : ℕ) (place : Place) (left : List ℕ) (fault : HttpFault) → IsOutside fault
+    → EndsChunks limit got place left false (Err fault)
 outside_ends limit got place left WireFault outside = (tt, refl)
 outside_ends limit got place left (HeadCut count) outside = absurd outside
 outside_ends limit got place left HeadTooLong outside = absurd outside
@@ -24,8 +28,10 @@ outside_ends limit got place left (TooLong bound) outside = absurd outside
 outside_ends limit got place left Memory outside = (tt, refl)
 
 -- a line that ended the reading, at the place that these bytes reach
-pub line_ends : (before now : Option (List Connection)) (ahead left : List ℕ) (line : Line) (limit got : ℕ) (place : List ℕ → Place) (fault : HttpFault)
-    → ((bytes : List ℕ) → IsBadLine line bytes → IsBad (place bytes)) → ((bytes : List ℕ) → IsCutLine line bytes → IsCut (place bytes))
+pub line_ends : (before now : Option (List Connection)) (ahead left : List ℕ) (line : Line) (limit got : ℕ)
+    (place : List ℕ → Place) (fault : HttpFault)
+    → ((bytes : List ℕ) → IsBadLine line bytes → IsBad (place bytes)) → ((bytes : List ℕ) → IsCutLine line bytes
+    → IsCut (place bytes))
     → ReadsLine before now ahead left line got (Err fault)
     → (bytes : List ℕ) × (ended : Bool) × Takes before now ahead left bytes ended
     × EndsChunks limit got (place bytes) left ended (Err fault)
@@ -43,12 +49,15 @@ line_ends before now ahead left line limit got place (BadLength text) bad cut to
 line_ends before now ahead left line limit got place (TooLong bound) bad cut told = absurd told.0
 
 -- the reading ended in a size line
-pub stops_in_size : (before now : Option (List Connection)) (ahead left room : List ℕ) (limit got : ℕ) (fault : HttpFault)
+pub stops_in_size : (before now : Option (List Connection)) (ahead left room : List ℕ) (limit got : ℕ)
+    (fault : HttpFault)
     → ReadsLine before now ahead left Size got (Err fault) → StopsAt before now ahead room room limit got (Err fault)
 stops_in_size before now ahead left room limit got fault told =
     let e : got ≡ got + length {A = ℕ} [] = sym (add-zero got) in
-    let told : ReadsLine before now ahead left Size (got + length {A = ℕ} []) (Err fault) = subst (λ n. ReadsLine before now ahead left Size n (Err fault)) e told in
-    let stop = line_ends before now ahead left Size limit (got + length {A = ℕ} []) in_size fault (λ bytes h. h) (λ bytes h. h) told in
+    let told : ReadsLine before now ahead left Size (got + length {A = ℕ} [])
+    (Err fault) = subst (λ n. ReadsLine before now ahead left Size n (Err fault)) e told in
+    let stop = line_ends before now ahead left Size limit (got + length {A = ℕ} []) in_size fault (λ bytes h. h)
+    (λ bytes h. h) told in
     record {
       place = in_size stop.0;
       left = left;
@@ -60,7 +69,8 @@ stops_in_size before now ahead left room limit got fault told =
     }
 
 -- the size is too much
-pub stops_long : {before now : Option (List Connection)} {ahead left : List ℕ} (room : List ℕ) (limit got size : ℕ) (line : List ℕ)
+pub stops_long : {before now : Option (List Connection)} {ahead left : List ℕ} (room : List ℕ) (limit got size : ℕ)
+    (line : List ℕ)
     → IsLine Size line size → Takes before now ahead left line false → limit < got + size
     → StopsAt before now ahead room room limit got (Err (TooLong limit))
 stops_long {left} room limit got size line is takes over = record {
@@ -74,7 +84,8 @@ stops_long {left} room limit got size line is takes over = record {
 }
 
 -- the reading ended in what a chunk carries, by a fault from outside
-pub stops_in_content : {a b c : Option (List Connection)} {p q r : List ℕ} (old new : List ℕ) (limit got size : ℕ) (line : List ℕ) (fault : HttpFault)
+pub stops_in_content : {a b c : Option (List Connection)} {p q r : List ℕ} (old new : List ℕ) (limit got size : ℕ)
+    (line : List ℕ) (fault : HttpFault)
     → IsLine Size line size → 0 < size → got + size ≤ limit → Takes a b p q line false
     → TakesInto b c q r old new size (Err fault) → StopsAt a c p old new limit got (Err fault)
 stops_in_content {r} old new limit got size line fault is some fits takes told =
@@ -90,7 +101,8 @@ stops_in_content {r} old new limit got size line fault is some fits takes told =
     }
 
 -- the input ended in what a chunk carries
-pub cut_in_content : {a b c : Option (List Connection)} {p q r : List ℕ} (old new : List ℕ) (limit got size came : ℕ) (line : List ℕ)
+pub cut_in_content : {a b c : Option (List Connection)} {p q r : List ℕ} (old new : List ℕ) (limit got size came : ℕ)
+    (line : List ℕ)
     → IsLine Size line size → 0 < size → got + size ≤ limit → Takes a b p q line false → came < size
     → TakesInto b c q r old new size (Ok came) → StopsAt a c p old new limit got (Err (BodyCut None (got + came)))
 cut_in_content {r} old new limit got size came line is some fits takes short told =
@@ -116,7 +128,8 @@ carries {a} {c} {p} {r} old new size came line takes whole told =
     (told.1, told.2 ∙ same, told.3, subst (λ ended. Takes a c p r (line ++ told.1) ended) (told.7 same) both)
 
 -- the reading ended in the line end of a chunk
-pub stops_in_end : {a b c d : Option (List Connection)} {p q r : List ℕ} (s old new : List ℕ) (limit got size came : ℕ) (line : List ℕ) (fault : HttpFault)
+pub stops_in_end : {a b c d : Option (List Connection)} {p q r : List ℕ} (s old new : List ℕ)
+    (limit got size came : ℕ) (line : List ℕ) (fault : HttpFault)
     → IsLine Size line size → 0 < size → got + size ≤ limit → Takes a b p q line false → size ≤ came
     → TakesInto b c q r old new size (Ok came) → ReadsLine c d r s ChunkEnd (got + size) (Err fault)
     → StopsAt a d p old new limit got (Err fault)
@@ -125,20 +138,24 @@ stops_in_end {a} {c} {d} {p} {r} s old new limit got size came line fault is som
     let content = carried.0 in
     let as_far : got + size ≡ got + length content = omega (arith, carried.1) in
     let line_is : IsLine Size line (length content) = subst (λ n. IsLine Size line n) (sym carried.1) is in
-    let told : ReadsLine c d r s ChunkEnd (got + length content) (Err fault) = subst (λ n. ReadsLine c d r s ChunkEnd n (Err fault)) as_far ends in
-    let stop = line_ends c d r s ChunkEnd limit (got + length content) (in_end line content) fault (λ bytes h. h) (λ bytes h. h) told in
+    let told : ReadsLine c d r s ChunkEnd (got + length content)
+    (Err fault) = subst (λ n. ReadsLine c d r s ChunkEnd n (Err fault)) as_far ends in
+    let stop = line_ends c d r s ChunkEnd limit (got + length content) (in_end line content) fault (λ bytes h. h)
+    (λ bytes h. h) told in
     record {
       place = in_end line content stop.0;
       left = s;
       ended = stop.1;
-      takes = subst (λ bytes. Takes a d p s bytes stop.1) (append_assoc line content stop.0) (takes_both carried.3 stop.2);
+      takes = subst (λ bytes. Takes a d p s bytes stop.1) (append_assoc line content stop.0)
+          (takes_both carried.3 stop.2);
       room = carried.2;
       reached = (line_is, omega (arith, carried.1, some), omega (arith, carried.1, fits));
       ends = stop.3;
     }
 
 -- a whole chunk
-pub whole_chunk : {a b c d : Option (List Connection)} {p q r s : List ℕ} (old new : List ℕ) (limit got size came end : ℕ) (line : List ℕ)
+pub whole_chunk : {a b c d : Option (List Connection)} {p q r s : List ℕ} (old new : List ℕ)
+    (limit got size came end : ℕ) (line : List ℕ)
     → IsLine Size line size → 0 < size → got + size ≤ limit → Takes a b p q line false → size ≤ came
     → TakesInto b c q r old new size (Ok came) → ReadsLine c d r s ChunkEnd (got + size) (Ok end)
     → ReadsChunk a d p s old new limit got (Ok (Some size))

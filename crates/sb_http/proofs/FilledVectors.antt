@@ -1,5 +1,6 @@
 -- A buffer that is filled from a place on.
-use Rattle.std.proofs.Common.{ℕ, suc, zero, ◌≡◌, ◌≤◌, ◌<◌, ◌+◌, ◌-◌, ◌∙◌, false, List, [], ◌∷◌, ◌++◌, ap, subst, sym, length, take, refl, arith, append-nil, Option, Result, Ok, Err, length-append}
+use Rattle.std.proofs.Common.{ℕ, suc, zero, ◌≡◌, ◌≤◌, ◌<◌, ◌+◌, ◌-◌, ◌∙◌, false, List, [], ◌∷◌, ◌++◌, ap, subst, sym}
+use Rattle.std.proofs.Common.{length, take, refl, arith, append-nil, Option, Result, Ok, Err, length-append}
 use Rattle.std.proofs.lemmas.List.{length-take-le, take-append-le}
 use Rattle.std.proofs.Math.Seq.{take-append-add, take-length}
 use Rattle.sb_world.specs.declared.wire.Connection.{Connection}
@@ -47,7 +48,8 @@ long n count k xs ys within more =
 pub grown_nothing : (list : List Connection) → grown [] [] false list ≡ list
 grown_nothing [] = refl
 grown_nothing (newest ∷ older) =
-    let with_both : List ℕ → List ℕ → Connection = λ sent received. record { sent = sent; received = received; ended = newest.ended } in
+    let with_both : List ℕ → List ℕ
+    → Connection = λ sent received. record { sent = sent; received = received; ended = newest.ended } in
     ap (λ sent. with_both sent (newest.received ++ []) ∷ older) (append-nil newest.sent)
     ∙ ap (λ received. with_both newest.sent received ∷ older) (append-nil newest.received)
 
@@ -58,7 +60,8 @@ grows_nothing gains = record {
 }
 
 -- a receive into the part of a buffer behind its start
-pub received_behind : {E : Type 0} (before now : Option (List Connection)) (start : ℕ) (old room : List ℕ) (result : Result ℕ E)
+pub received_behind : {E : Type 0} (before now : Option (List Connection)) (start : ℕ) (old room : List ℕ)
+    (result : Result ℕ E)
     → start < length old → length room ≡ length old - start → Receives before now result room
     → ReceivesBehind before now start old (put_mid start (length old - start) old room) result
 received_behind before now start old room (Ok count) within len told = (
@@ -68,4 +71,8 @@ received_behind before now start old room (Ok count) within len told = (
   take_filled start count (length old - start) old room (omega (arith, within)) told.0,
   subst (λ e. Grows before now [] (take count room) e) (is_end_counts count room (omega (arith, within, len))) told.1,
 )
-received_behind before now start old room (Err fault) within len told = (take_kept start (length old - start) old room (omega (arith, within)), grows_nothing told)
+received_behind before now start old room (Err fault) within len told = (
+  take_kept start
+      (length old - start) old room (omega (arith, within)),
+  grows_nothing told,
+)

@@ -1,5 +1,6 @@
 -- Heads that wait, and are taken.
-use Rattle.std.proofs.Common.{ℕ, ◌≡◌, ◌≢◌, ◌≤◌, ◌+◌, ◌∙◌, true, false, All, List, [], ◌∷◌, ◌++◌, length, drop, Option, Some, Ok, Err, ap, sym, subst, refl, arith, inl, inr, append-nil, length-append}
+use Rattle.std.proofs.Common.{ℕ, ◌≡◌, ◌≢◌, ◌≤◌, ◌+◌, ◌∙◌, true, false, All, List, [], ◌∷◌, ◌++◌, length, drop, Option}
+use Rattle.std.proofs.Common.{Some, Ok, Err, ap, sym, subst, refl, arith, inl, inr, append-nil, length-append}
 use Rattle.std.proofs.lemmas.Grind.{flat_map-append}
 use Rattle.std.proofs.lemmas.List.Elements.{All-append, All-cons, All-nil}
 use Rattle.httparse.specs.declared.spans.HeaderSpan.{HeaderSpan}
@@ -44,7 +45,8 @@ cut_head a b c p w seen came new most count before seen_is came_is unfinished sm
     let took = more_waits a b c p w new most count before told in
     let same : new ≡ w = told.3 ∙ ap (λ xs. w ++ xs) (nothing_came told.1 (told.2 ∙ none)) ∙ append-nil w in
     let len : length came ≡ length w = ap (λ (xs : List ℕ). length xs) came_is in
-    let at_end : Takes a c p [] w true = subst (λ n. Takes a c p [] w (is_nothing n)) none (subst (λ xs. Takes a c p [] xs (is_nothing count)) same took) in
+    let at_end : Takes a c p [] w true = subst (λ n. Takes a c p [] w (is_nothing n)) none (subst
+    (λ xs. Takes a c p [] xs (is_nothing count)) same took) in
     record {
       front = w;
       left = [];
@@ -72,7 +74,8 @@ takes_part {w} bytes rest parts takes = record {
 -- a head that waits is one within the limits
 pub waits_whole : (a b : Option (List Connection)) (p w : List ℕ) (spans : List HeaderSpan) (found : ResponseSpans)
     → FindsHead a b p w spans (Ok found)
-    → (h : ResponseHead) × IsHead h × IsResponseAt w spans found h × Takes a b p (drop found.len w) (print_response h) false
+    → (h : ResponseHead) × IsHead h × IsResponseAt w spans found h × Takes a b p (drop found.len w)
+    (print_response h) false
     × (length (drop found.len w) ≤ MAX_HEAD)
 waits_whole a b p w spans found told =
     let h = told.0.0 in
@@ -90,13 +93,17 @@ waits_whole a b p w spans found told =
 pub no_memory : (a b : Option (List Connection)) (p w : List ℕ) → Takes a b p [] w false → StopsInHead a b p Memory
 no_memory a b p w takes = record { front = w; left = []; ended = false; takes = takes; ends = (tt, refl) }
 
-pub print_more : (heads : List ResponseHead) (h : ResponseHead) → print_heads (heads ++ h ∷ []) ≡ print_heads heads ++ print_response h
-print_more heads h = flat_map-append print_response heads (h ∷ []) ∙ ap (λ ys. print_heads heads ++ ys) (append-nil (print_response h))
+pub print_more : (heads : List ResponseHead) (h : ResponseHead)
+    → print_heads (heads ++ h ∷ []) ≡ print_heads heads ++ print_response h
+print_more heads h = flat_map-append print_response heads (h ∷ []) ∙ ap (λ ys. print_heads heads ++ ys)
+    (append-nil (print_response h))
 
 -- one more interim response
 pub one_passed : (a b c : Option (List Connection)) (p q r : List ℕ) (heads : List ResponseHead) (h : ResponseHead)
-    → All IsInterim heads → IsInterim h → Takes a b p q (print_heads heads) false → Takes b c q r (print_response h) false
-    → All IsInterim (heads ++ h ∷ []) × (length (heads ++ h ∷ []) ≡ length heads + 1) × Takes a c p r (print_heads (heads ++ h ∷ [])) false
+    → All IsInterim heads → IsInterim h → Takes a b p q (print_heads heads) false
+    → Takes b c q r (print_response h) false
+    → All IsInterim (heads ++ h ∷ []) × (length (heads ++ h ∷ []) ≡ length heads + 1)
+    × Takes a c p r (print_heads (heads ++ h ∷ [])) false
 one_passed a b c p q r heads h all is before took = (
   All-append IsInterim heads (h ∷ []) all (All-cons IsInterim h [] is (All-nil IsInterim)),
   omega (arith, length-append heads (h ∷ [])),
@@ -121,5 +128,13 @@ head_stops a b c p q r heads fault all few before stop =
 pub too_many_passed : (a b : Option (List Connection)) (p q r : List ℕ) (heads : List ResponseHead)
     → All IsInterim heads → length heads ≡ MAX_INTERIM + 1 → Takes a b p q (print_heads heads) false
     → ReadsHead a b p r (Err BadHead)
-too_many_passed a b p q r heads all many before =
-    (heads, all, [], q, false, inr (many, refl, refl, refl), subst (λ bytes. Takes a b p q bytes false) (sym (append-nil (print_heads heads))) before)
+too_many_passed a b p q r heads all many before = (
+  heads,
+  all,
+  [],
+  q,
+  false,
+  inr (many, refl, refl, refl),
+  subst (λ bytes. Takes a b p q bytes false)
+      (sym (append-nil (print_heads heads))) before,
+)

@@ -1,9 +1,11 @@
 -- Bodies of a declared length, and to the end of the input.
-use Rattle.std.proofs.Common.{ℕ, ◌≤◌, ◌<◌, true, false, List, [], ◌∷◌, ◌++◌, length, Option, Some, None, Ok, Err, sym, subst, refl, arith, append-nil}
+use Rattle.std.proofs.Common.{ℕ, ◌≤◌, ◌<◌, true, false, List, [], ◌∷◌, ◌++◌, length, Option, Some, None, Ok, Err, sym}
+use Rattle.std.proofs.Common.{subst, refl, arith, append-nil}
 use Rattle.sb_world.specs.declared.wire.Connection.{Connection}
 use Rattle.sb_http.specs.declared.framing.Framing.TheVariants.{Empty, Sized, ToEnd}
 use Rattle.sb_http.specs.declared.fault.HttpFault.{HttpFault}
-use Rattle.sb_http.specs.declared.fault.HttpFault.TheVariants.{WireFault, HeadCut, HeadTooLong, BadHead, TooManyHeaders, BadLength, BodyCut, BadChunk, TooLong, Memory}
+use Rattle.sb_http.specs.declared.fault.HttpFault.TheVariants.{WireFault, HeadCut, HeadTooLong, BadHead, TooManyHeaders}
+use Rattle.sb_http.specs.declared.fault.HttpFault.TheVariants.{BadLength, BodyCut, BadChunk, TooLong, Memory}
 use Rattle.sb_http.specs.Takings.{Takes, TakesByte, TakesInto, IsOutside}
 use Rattle.sb_http.specs.Bodies.{IsToEnd, ReadsBody}
 use Rattle.sb_http.proofs.TakingsJoined.{takes_both, takes_nothing}
@@ -21,7 +23,8 @@ by_outside P wire memory (BodyCut want count) outside = absurd outside
 by_outside P wire memory (BadChunk count) outside = absurd outside
 by_outside P wire memory (TooLong bound) outside = absurd outside
 
-pub no_body : (limit : ℕ) (now : Option (List Connection)) (ahead room : List ℕ) → ReadsBody Empty limit now now ahead room room (Ok 0)
+pub no_body : (limit : ℕ) (now : Option (List Connection)) (ahead room : List ℕ)
+    → ReadsBody Empty limit now now ahead room room (Ok 0)
 no_body limit now ahead room = record {
   taken = [];
   content = [];

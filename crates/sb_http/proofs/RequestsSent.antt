@@ -1,5 +1,6 @@
 -- What was sent and received on a new connection.
-use Rattle.std.proofs.Common.{ℕ, ◌≡◌, ◌∙◌, Bool, true, false, cond, List, [], ◌∷◌, ◌++◌, Option, Result, Ok, Err, ap, sym, subst, refl, inr, append-nil, append_assoc}
+use Rattle.std.proofs.Common.{ℕ, ◌≡◌, ◌∙◌, Bool, true, false, cond, List, [], ◌∷◌, ◌++◌, Option, Result, Ok, Err, ap}
+use Rattle.std.proofs.Common.{sym, subst, refl, inr, append-nil, append_assoc}
 use Rattle.sb_world.specs.Told.{Gains}
 use Rattle.sb_world.specs.declared.wire.Connection.{Connection}
 use Rattle.sb_world.specs.Wires.{Grows, Sends, grown}
@@ -30,7 +31,8 @@ head_unsent a b c head body fault begun sends =
     )
 
 -- the head of a request was sent, and then the body, or the fault came
-pub head_sent : {E : Type 0} (a b c d : Option (List Connection)) (head body : List ℕ) (result : Result Unit E) (done : Unit)
+pub head_sent : {E : Type 0} (a b c d : Option (List Connection)) (head body : List ℕ) (result : Result Unit E)
+    (done : Unit)
     → Gains a b (connection [] [] false ∷ []) → Sends {E = E} b c (Ok done) head → Sends c d result body
     → SendsRequest a d (head ++ body) result
 head_sent a b c d head body (Ok end) done begun sends more =
@@ -48,7 +50,8 @@ end_told true = refl
 end_told false = refl
 
 -- the request was sent, and a response read
-pub answered : (bodiless : Bool) (limit : ℕ) (a b c : Option (List Connection)) (request waiting old new : List ℕ) (result : Result Response HttpFault)
+pub answered : (bodiless : Bool) (limit : ℕ) (a b c : Option (List Connection)) (request waiting old new : List ℕ)
+    (result : Result Response HttpFault)
     → Gains a b (connection request [] false ∷ []) → waiting ≡ []
     → ReadsResponse bodiless limit b c waiting old new result → Exchanges bodiless limit a c request old new result
 answered bodiless limit a b c request waiting old new result sent none told =

@@ -1,5 +1,6 @@
 -- How heads and a body join to a response.
-use Rattle.std.proofs.Common.{ℕ, ◌≡◌, ◌∙◌, Bool, false, List, [], Option, Result, Ok, Err, ap, sym, subst, refl, inl, inr, append-nil}
+use Rattle.std.proofs.Common.{ℕ, ◌≡◌, ◌∙◌, Bool, false, List, [], Option, Result, Ok, Err, ap, sym, subst, refl, inl}
+use Rattle.std.proofs.Common.{inr, append-nil}
 use Rattle.sb_sign.specs.declared.request.Pair.{Pair}
 use Rattle.sb_world.specs.declared.wire.Connection.{Connection}
 use Rattle.sb_http.specs.declared.framing.Framing.{Framing}
@@ -25,14 +26,17 @@ head_fault bodiless limit a b p q room fault told = record {
 }
 
 -- the framing of the head that was kept is that of the head that was read
-pub framing_of_head : (bodiless : Bool) (status other : ℕ) (headers pairs : List Pair) (result : Result Framing HttpFault)
-    → status ≡ other → headers ≡ pairs → IsFraming bodiless status headers result → IsFraming bodiless other pairs result
+pub framing_of_head : (bodiless : Bool) (status other : ℕ) (headers pairs : List Pair)
+    (result : Result Framing HttpFault)
+    → status ≡ other → headers ≡ pairs → IsFraming bodiless status headers result
+    → IsFraming bodiless other pairs result
 framing_of_head bodiless status other headers pairs result same_status same_headers framed =
     subst (λ n. IsFraming bodiless n pairs result) same_status
     (subst (λ hs. IsFraming bodiless status hs result) same_headers framed)
 
 -- the head declares a length that is refused
-pub length_fault : (bodiless : Bool) (limit : ℕ) (a b : Option (List Connection)) (p q room : List ℕ) (head : Head) (headers : List Pair) (fault : HttpFault)
+pub length_fault : (bodiless : Bool) (limit : ℕ) (a b : Option (List Connection)) (p q room : List ℕ) (head : Head)
+    (headers : List Pair) (fault : HttpFault)
     → ReadsHead a b p q (Ok head) → headers ≡ head.headers.items → IsFraming bodiless head.status headers (Err fault)
     → ReadsResponse bodiless limit a b p room room (Err fault)
 length_fault bodiless limit a b p q room head headers fault told same framed = record {
@@ -54,7 +58,8 @@ length_fault bodiless limit a b p q room head headers fault told same framed = r
 }
 
 -- a body behind the head that was kept is one behind the head that was read
-body_of : (bodiless : Bool) (limit : ℕ) (a b c : Option (List Connection)) (p q old new : List ℕ) (head : Head) (headers : List Pair) (bound : ℕ) (framing : Framing) (result : Result ℕ HttpFault)
+body_of : (bodiless : Bool) (limit : ℕ) (a b c : Option (List Connection)) (p q old new : List ℕ) (head : Head)
+    (headers : List Pair) (bound : ℕ) (framing : Framing) (result : Result ℕ HttpFault)
     → (told : ReadsHead a b p q (Ok head)) → headers ≡ head.headers.items → bound ≡ bound_of head.status limit
     → IsFraming bodiless head.status headers (Ok framing) → (read : ReadsBody framing bound b c q old new result)
     → HasBody bodiless limit told.3 read.taken read.content read.left read.ended result
@@ -66,7 +71,8 @@ body_of bodiless limit a b c p q old new head headers bound framing result told 
 }
 
 -- the reading ended in the body
-pub body_fault : (bodiless : Bool) (limit : ℕ) (a b c : Option (List Connection)) (p q old new : List ℕ) (head : Head) (headers : List Pair) (bound : ℕ) (framing : Framing) (fault : HttpFault)
+pub body_fault : (bodiless : Bool) (limit : ℕ) (a b c : Option (List Connection)) (p q old new : List ℕ)
+    (head : Head) (headers : List Pair) (bound : ℕ) (framing : Framing) (fault : HttpFault)
     → ReadsHead a b p q (Ok head) → headers ≡ head.headers.items → bound ≡ bound_of head.status limit
     → IsFraming bodiless head.status headers (Ok framing) → ReadsBody framing bound b c q old new (Err fault)
     → ReadsResponse bodiless limit a c p old new (Err fault)
@@ -88,10 +94,15 @@ body_fault bodiless limit a b c p q old new head headers bound framing fault tol
 }
 
 -- a whole response
-pub body_read : (bodiless : Bool) (limit : ℕ) (a b c : Option (List Connection)) (p q old new : List ℕ) (head : Head) (headers : List Pair) (bound : ℕ) (framing : Framing) (count : ℕ)
+pub body_read : (bodiless : Bool) (limit : ℕ) (a b c : Option (List Connection)) (p q old new : List ℕ) (head : Head)
+    (headers : List Pair) (bound : ℕ) (framing : Framing) (count : ℕ)
     → ReadsHead a b p q (Ok head) → headers ≡ head.headers.items → bound ≡ bound_of head.status limit
     → IsFraming bodiless head.status headers (Ok framing) → ReadsBody framing bound b c q old new (Ok count)
-    → ReadsResponse bodiless limit a c p old new (Ok (record { status = head.status; headers = head.headers; length = count }))
+    → ReadsResponse bodiless limit a c p old new (Ok (record {
+      status = head.status;
+      headers = head.headers;
+      length = count;
+    }))
 body_read bodiless limit a b c p q old new head headers bound framing count told same within framed read = record {
   taken = _;
   content = read.content;

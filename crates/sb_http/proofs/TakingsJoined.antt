@@ -1,5 +1,6 @@
 -- How takings join.
-use Rattle.std.proofs.Common.{ℕ, ◌≡◌, ◌∙◌, ◌+◌, ◌≢◌, zero, suc, Ok, length, length-append, subst, cond, arith, Bool, true, false, List, [], ◌∷◌, ◌++◌, Option, append_assoc, append-nil, ap, sym, refl}
+use Rattle.std.proofs.Common.{ℕ, ◌≡◌, ◌∙◌, ◌+◌, ◌≢◌, zero, suc, Ok, length, length-append, subst, cond, arith, Bool}
+use Rattle.std.proofs.Common.{true, false, List, [], ◌∷◌, ◌++◌, Option, append_assoc, append-nil, ap, sym, refl}
 use Rattle.sb_world.specs.declared.wire.Connection.{Connection}
 use Rattle.sb_world.specs.Wires.{grown, Grows}
 use Rattle.sb_http.specs.Takings.{Takes, ReceivesInto, is_nothing}
@@ -64,7 +65,8 @@ something (suc n) some = refl
 -- a receive behind what was taken, when nothing waits
 pub more_taken : (a b c : Option (List Connection)) (p q old mid new xs : List ℕ) (most count : ℕ)
     → mid ≡ old ++ xs → q ≡ [] → Takes a b p q xs false → ReceivesInto b c mid new most (Ok count)
-    → (bytes : List ℕ) × (length bytes ≡ length xs + count) × (new ≡ old ++ bytes) × Takes a c p q bytes (is_nothing count)
+    → (bytes : List ℕ) × (length bytes ≡ length xs + count) × (new ≡ old ++ bytes)
+    × Takes a c p q bytes (is_nothing count)
 more_taken a b c p q old mid new xs most count mid_is empty before told =
     let bytes = told.1 in (
       xs ++ bytes,

@@ -1,15 +1,18 @@
 -- Bodies of responses (RFC 9112, section 6).
-use Rattle.std.specs.Prelude.{ℕ, ◌≡◌, ◌≤◌, ◌<◌, ◌+◌, Bool, true, false, List, [], ◌∷◌, ◌++◌, length, All, Option, Some, Result, Ok, Err}
+use Rattle.std.specs.Prelude.{ℕ, ◌≡◌, ◌≤◌, ◌<◌, ◌+◌, Bool, true, false, List, [], ◌∷◌, ◌++◌, length, All, Option, Some}
+use Rattle.std.specs.Prelude.{Result, Ok, Err}
 use Rattle.sb_world.specs.declared.wire.Connection.{Connection}
 use Rattle.sb_http.specs.declared.framing.Framing.{Framing}
 use Rattle.sb_http.specs.declared.framing.Framing.TheVariants.{Empty, Sized, Chunked, ToEnd}
 use Rattle.sb_http.specs.declared.fault.HttpFault.{HttpFault}
 use Rattle.sb_http.specs.declared.fault.HttpFault.TheVariants.{BodyCut, TooLong}
 use Rattle.sb_http.specs.Takings.{Takes, IsOutside}
-use Rattle.sb_http.specs.Chunks.{Chunk, IsChunk, print_chunks, content_of, Place, IsPlace, print_place, content_at, EndsChunks}
+use Rattle.sb_http.specs.Chunks.{Chunk, IsChunk, print_chunks, content_of, Place, IsPlace, print_place, content_at}
+use Rattle.sb_http.specs.Chunks.{EndsChunks}
 
 -- whole chunks within the limit and the place behind them, where the reading ends
-pub record IsChunked (limit : ℕ) (taken content left : List ℕ) (ended : Bool) (result : Result ℕ HttpFault) : Type 0 where
+pub record IsChunked (limit : ℕ) (taken content left : List ℕ) (ended : Bool)
+    (result : Result ℕ HttpFault) : Type 0 where
   pub chunks : List Chunk
   pub place : Place
   pub all : All IsChunk chunks
@@ -50,7 +53,8 @@ IsBody Chunked limit taken content left ended result = IsChunked limit taken con
 IsBody ToEnd limit taken content left ended result = IsToEnd limit taken content left ended result
 
 -- a body was read behind the old bytes of a vector, or the reading ended
-pub record ReadsBody (framing : Framing) (limit : ℕ) (before now : Option (List Connection)) (ahead old new : List ℕ) (result : Result ℕ HttpFault) : Type 0 where
+pub record ReadsBody (framing : Framing) (limit : ℕ) (before now : Option (List Connection)) (ahead old new : List ℕ)
+    (result : Result ℕ HttpFault) : Type 0 where
   pub taken : List ℕ
   pub content : List ℕ
   pub left : List ℕ

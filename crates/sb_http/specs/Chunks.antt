@@ -1,5 +1,6 @@
 -- Bodies in chunks (RFC 9112, section 7.1).
-use Rattle.std.specs.Prelude.{ℕ, ◌≡◌, ◌≤◌, ◌<◌, ◌+◌, Bool, true, false, List, [], ◌++◌, length, Option, Some, None, Result, Ok, Err}
+use Rattle.std.specs.Prelude.{ℕ, ◌≡◌, ◌≤◌, ◌<◌, ◌+◌, Bool, true, false, List, [], ◌++◌, length, Option, Some, None}
+use Rattle.std.specs.Prelude.{Result, Ok, Err}
 use Rattle.std.specs.List.{flat_map}
 use Rattle.sb_world.specs.declared.wire.Connection.{Connection}
 use Rattle.sb_http.specs.declared.line.Line.TheVariants.{Size, ChunkEnd, TrailerLine}
@@ -100,7 +101,8 @@ EndsChunks limit got place left ended (Err (TooLong bound)) = IsOver limit got p
 EndsChunks limit got place left ended (Err fault) = IsOutside fault × (ended ≡ false)
 
 -- no chunk more was read, but the place in it
-pub record StopsAt (before now : Option (List Connection)) (ahead old new : List ℕ) (limit got : ℕ) (result : Result ℕ HttpFault) : Type 0 where
+pub record StopsAt (before now : Option (List Connection)) (ahead old new : List ℕ) (limit got : ℕ)
+    (result : Result ℕ HttpFault) : Type 0 where
   pub place : Place
   pub left : List ℕ
   pub ended : Bool
@@ -110,7 +112,8 @@ pub record StopsAt (before now : Option (List Connection)) (ahead old new : List
   pub ends : EndsChunks limit (got + length (content_at place)) place left ended result
 
 -- one chunk was read behind so much of the body, or the size line of the last one, or the reading ended
-abbrev pub ReadsChunk : Option (List Connection) → Option (List Connection) → List ℕ → List ℕ → List ℕ → List ℕ → ℕ → ℕ → Result (Option ℕ) HttpFault → Type 0
+abbrev pub ReadsChunk : Option (List Connection) → Option (List Connection) → List ℕ → List ℕ → List ℕ → List ℕ → ℕ
+    → ℕ → Result (Option ℕ) HttpFault → Type 0
 ReadsChunk before now ahead left old new limit got (Ok (Some size)) =
     (chunk : Chunk) × IsChunk chunk × (length chunk.content ≡ size) × (got + size ≤ limit)
     × Takes before now ahead left (print_chunk chunk) false × (new ≡ old ++ chunk.content)

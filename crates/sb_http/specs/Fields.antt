@@ -1,5 +1,7 @@
 -- The fields of a response as they are kept, and the framing that they declare (RFC 9112, section 6.3).
-use Rattle.std.specs.Prelude.{ℕ, ◌≡◌, ◌+◌, ◌*◌, ◌^◌, ◌-◌, ◌==◌, ◌&&◌, ◌||◌, not, nat_le, Bool, true, false, if◌then◌else◌, List, [], ◌∷◌, codes, bytes_eq, is_none, Option, Some, None, Result, Ok, Err}
+use Rattle.std.specs.Prelude.{ℕ, ◌≡◌, ◌+◌, ◌*◌, ◌^◌, ◌-◌, ◌==◌, ◌&&◌, ◌||◌, not, nat_le, Bool, true, false}
+use Rattle.std.specs.Prelude.{if◌then◌else◌, List, [], ◌∷◌, codes, bytes_eq, is_none, Option, Some, None, Result, Ok}
+use Rattle.std.specs.Prelude.{Err}
 use Rattle.std.specs.List.{list_any}
 use Rattle.std.specs.Char.{is_ascii_digit}
 use Rattle.http_header.specs.Token.{lowercase}
@@ -25,7 +27,8 @@ is_chunked pair =
 -- a length with one more digit, at most 2^63 - 1
 abbrev pub with_digit : ℕ → ℕ → Option ℕ
 with_digit size byte =
-    if is_ascii_digit byte then (if nat_le (size * 10 + (byte - 48)) (2 ^ 63 - 1) then Some (size * 10 + (byte - 48)) else None)
+    if is_ascii_digit byte then (if nat_le (size * 10 + (byte - 48))
+    (2 ^ 63 - 1) then Some (size * 10 + (byte - 48)) else None)
     else None
 
 -- the length that digits give behind those of a length

@@ -1,9 +1,11 @@
 -- Heads of responses (RFC 9112, sections 2 to 5, as httparse reads them).
-use Rattle.std.specs.Prelude.{ℕ, ◌≡◌, ◌≤◌, ◌<◌, ◌+◌, ◌&&◌, ◌⊎◌, nat_le, nat_lt, Bool, true, false, List, [], ◌++◌, length, map, All, Option, Some, None, Result, Ok, Err}
+use Rattle.std.specs.Prelude.{ℕ, ◌≡◌, ◌≤◌, ◌<◌, ◌+◌, ◌&&◌, ◌⊎◌, nat_le, nat_lt, Bool, true, false, List, [], ◌++◌}
+use Rattle.std.specs.Prelude.{length, map, All, Option, Some, None, Result, Ok, Err}
 use Rattle.std.specs.List.{flat_map}
 use Rattle.httparse.specs.declared.spans.HeaderSpan.{HeaderSpan}
 use Rattle.httparse.specs.declared.spans.ResponseSpans.{ResponseSpans}
-use Rattle.httparse.specs.Grammar.{ResponseHead, IsResponseHead, print_response, status_code, HasNoResponse, NeverHasResponse, MayBecomeResponse}
+use Rattle.httparse.specs.Grammar.{ResponseHead, IsResponseHead, print_response, status_code, HasNoResponse}
+use Rattle.httparse.specs.Grammar.{NeverHasResponse, MayBecomeResponse}
 use Rattle.httparse.specs.Spans.{IsResponseAt, IsResponseWithin, ResponseExceeds, ResponseOverflows, name_and_value}
 use Rattle.sb_world.specs.declared.wire.Connection.{Connection}
 use Rattle.sb_http.specs.declared.head.Head.{Head}
@@ -35,7 +37,8 @@ Keeps head h =
 -- what these bytes are found to be: a head, or no head yet, or never one, or one of too many lines
 abbrev pub Parses : List ℕ → List HeaderSpan → Result (Option ResponseSpans) HttpFault → Type 0
 Parses bytes spans (Ok (Some found)) =
-    (h : ResponseHead) × IsResponseAt bytes spans found h × IsResponseWithin bytes spans found × (length h.fields ≤ MAX_HEADERS)
+    (h : ResponseHead) × IsResponseAt bytes spans found h × IsResponseWithin bytes spans found
+    × (length h.fields ≤ MAX_HEADERS)
 Parses bytes spans (Ok None) = HasNoResponse bytes × MayBecomeResponse bytes
 Parses bytes spans (Err BadHead) = NeverHasResponse bytes
 Parses bytes spans (Err TooManyHeaders) = ResponseExceeds MAX_HEADERS bytes × ResponseOverflows MAX_HEADERS bytes
@@ -50,7 +53,8 @@ EndsHead front left ended HeadTooLong =
     HasNoResponse front × MayBecomeResponse front × (length front ≡ MAX_HEAD) × (ended ≡ false)
 EndsHead front left ended BadHead = NeverHasResponse front × (length front ≤ MAX_HEAD) × (ended ≡ false)
 EndsHead front left ended TooManyHeaders =
-    ResponseExceeds MAX_HEADERS front × ResponseOverflows MAX_HEADERS front × (length front ≤ MAX_HEAD) × (ended ≡ false)
+    ResponseExceeds MAX_HEADERS front × ResponseOverflows MAX_HEADERS front × (length front ≤ MAX_HEAD)
+    × (ended ≡ false)
 EndsHead front left ended fault = IsOutside fault × (ended ≡ false)
 
 -- the reading ended in a head
@@ -62,14 +66,16 @@ pub record StopsInHead (before now : Option (List Connection)) (ahead : List ℕ
   pub ends : EndsHead front left ended fault
 
 -- what waits begins with a head, or the reading ended in it
-abbrev pub FindsHead : Option (List Connection) → Option (List Connection) → List ℕ → List ℕ → List HeaderSpan → Result ResponseSpans HttpFault → Type 0
+abbrev pub FindsHead : Option (List Connection) → Option (List Connection) → List ℕ → List ℕ → List HeaderSpan
+    → Result ResponseSpans HttpFault → Type 0
 FindsHead before now ahead waiting spans (Ok found) =
     Parses waiting spans (Ok (Some found)) × (length waiting ≤ MAX_HEAD)
     × Takes before now ahead [] waiting false
 FindsHead before now ahead waiting spans (Err fault) = StopsInHead before now ahead fault
 
 -- one head was taken, of an interim response or of the one that counts, or the reading ended in it
-abbrev pub TakesHead : Option (List Connection) → Option (List Connection) → List ℕ → List ℕ → Result (Option Head) HttpFault → Type 0
+abbrev pub TakesHead : Option (List Connection) → Option (List Connection) → List ℕ → List ℕ
+    → Result (Option Head) HttpFault → Type 0
 TakesHead before now ahead left (Ok (Some head)) =
     (h : ResponseHead) × IsHead h × (is_interim (status_code h) ≡ false) × Keeps head h
     × Takes before now ahead left (print_response h) false
@@ -89,7 +95,8 @@ abbrev pub print_heads : List ResponseHead → List ℕ
 print_heads heads = flat_map print_response heads
 
 -- the heads of interim responses were passed over, and the head that counts was taken, or the reading ended
-abbrev pub ReadsHead : Option (List Connection) → Option (List Connection) → List ℕ → List ℕ → Result Head HttpFault → Type 0
+abbrev pub ReadsHead : Option (List Connection) → Option (List Connection) → List ℕ → List ℕ → Result Head HttpFault
+    → Type 0
 ReadsHead before now ahead left (Ok head) =
     (passed : List ResponseHead) × All IsInterim passed × (length passed ≤ MAX_INTERIM)
     × (h : ResponseHead) × IsHead h × (is_interim (status_code h) ≡ false) × Keeps head h

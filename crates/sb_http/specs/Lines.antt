@@ -1,9 +1,11 @@
 -- The lines round the chunks of a chunked body (RFC 9112, section 7.1).
-use Rattle.std.specs.Prelude.{ℕ, ◌≡◌, ◌≤◌, ◌<◌, ◌+◌, ◌-◌, ◌*◌, ◌^◌, ◌==◌, ◌⊎◌, min, if◌then◌else◌, true, false, List, [], length, fold, Option, None, Result, Ok, Err}
+use Rattle.std.specs.Prelude.{ℕ, ◌≡◌, ◌≤◌, ◌<◌, ◌+◌, ◌-◌, ◌*◌, ◌^◌, ◌==◌, ◌⊎◌, min, if◌then◌else◌, true, false, List}
+use Rattle.std.specs.Prelude.{[], length, fold, Option, None, Result, Ok, Err}
 use Rattle.std.specs.Char.{is_ascii_hexdigit, digit_value}
 use Rattle.sb_world.specs.declared.wire.Connection.{Connection}
 use Rattle.sb_http.specs.declared.line.Line.{Line}
-use Rattle.sb_http.specs.declared.line.Line.TheVariants.{Size, Digits, Extension, SizeReturn, ChunkEnd, ChunkReturn, TrailerLine, TrailerReturn, TrailerText, TextReturn}
+use Rattle.sb_http.specs.declared.line.Line.TheVariants.{Size, Digits, Extension, SizeReturn, ChunkEnd, ChunkReturn}
+use Rattle.sb_http.specs.declared.line.Line.TheVariants.{TrailerLine, TrailerReturn, TrailerText, TextReturn}
 use Rattle.sb_http.specs.declared.line.Step.{Step}
 use Rattle.sb_http.specs.declared.line.Step.TheVariants.{More, Done, Bad}
 use Rattle.sb_http.specs.declared.reading.TheConstants.{MAX_LINE}
@@ -64,7 +66,8 @@ abbrev pub IsCutLine : Line → List ℕ → Type 0
 IsCutLine line bytes = (length bytes < MAX_LINE) × IsOpen (read_from line bytes)
 
 -- a line was taken; or what is none, or the begin of one that the end cut, where so much of the body came before it
-abbrev pub ReadsLine : Option (List Connection) → Option (List Connection) → List ℕ → List ℕ → Line → ℕ → Result ℕ HttpFault → Type 0
+abbrev pub ReadsLine : Option (List Connection) → Option (List Connection) → List ℕ → List ℕ → Line → ℕ
+    → Result ℕ HttpFault → Type 0
 ReadsLine before now ahead left line got (Ok size) =
     (bytes : List ℕ) × Takes before now ahead left bytes false × IsLine line bytes size
 ReadsLine before now ahead left line got (Err (BadChunk count)) =

@@ -1,5 +1,6 @@
 -- Responses, as a function of the bytes that came.
-use Rattle.std.specs.Prelude.{ℕ, ◌≡◌, ◌≤◌, ◌&&◌, ◌⊎◌, nat_le, nat_lt, if◌then◌else◌, Bool, false, List, [], ◌∷◌, ◌++◌, length, map, All, Option, Result, Ok, Err}
+use Rattle.std.specs.Prelude.{ℕ, ◌≡◌, ◌≤◌, ◌&&◌, ◌⊎◌, nat_le, nat_lt, if◌then◌else◌, Bool, false, List, [], ◌∷◌, ◌++◌}
+use Rattle.std.specs.Prelude.{length, map, All, Option, Result, Ok, Err}
 use Rattle.httparse.specs.Grammar.{ResponseHead, print_response, status_code}
 use Rattle.httparse.specs.Spans.{name_and_value}
 use Rattle.sb_sign.specs.declared.request.Pair.{Pair}
@@ -35,7 +36,8 @@ abbrev pub print_all : List ResponseHead → ResponseHead → List ℕ
 print_all passed h = print_heads passed ++ print_response h
 
 -- how the body behind a head is read: the bytes taken of it, what it carried, and what is left
-pub record HasBody (bodiless : Bool) (limit : ℕ) (h : ResponseHead) (taken content left : List ℕ) (ended : Bool) (result : Result ℕ HttpFault) : Type 0 where
+pub record HasBody (bodiless : Bool) (limit : ℕ) (h : ResponseHead) (taken content left : List ℕ) (ended : Bool)
+    (result : Result ℕ HttpFault) : Type 0 where
   pub framing : Framing
   pub framed : IsFraming bodiless (status_code h) (pairs_of h) (Ok framing)
   pub body : IsBody framing (bound_of (status_code h) limit) taken content left ended result
@@ -60,7 +62,8 @@ pub record StopsAtLength (bodiless : Bool) (taken content : List ℕ) (ended : B
   pub early : ended ≡ false
 
 -- the reading ended in the body
-pub record StopsInBody (bodiless : Bool) (limit : ℕ) (taken content left : List ℕ) (ended : Bool) (fault : HttpFault) : Type 0 where
+pub record StopsInBody (bodiless : Bool) (limit : ℕ) (taken content left : List ℕ) (ended : Bool)
+    (fault : HttpFault) : Type 0 where
   pub passed : List ResponseHead
   pub h : ResponseHead
   pub bytes_of_body : List ℕ
@@ -69,7 +72,8 @@ pub record StopsInBody (bodiless : Bool) (limit : ℕ) (taken content left : Lis
   pub bytes : taken ≡ print_all passed h ++ bytes_of_body
 
 -- these bytes are a response, whose body carried this
-pub record IsResponse (bodiless : Bool) (limit : ℕ) (taken content left : List ℕ) (ended : Bool) (response : Response) : Type 0 where
+pub record IsResponse (bodiless : Bool) (limit : ℕ) (taken content left : List ℕ) (ended : Bool)
+    (response : Response) : Type 0 where
   pub passed : List ResponseHead
   pub h : ResponseHead
   pub bytes_of_body : List ℕ
@@ -81,13 +85,15 @@ pub record IsResponse (bodiless : Bool) (limit : ℕ) (taken content left : List
 
 -- what is answered to the bytes that were taken, with these left, at the input's end or before it
 abbrev pub IsAnswer : Bool → ℕ → List ℕ → List ℕ → List ℕ → Bool → Result Response HttpFault → Type 0
-IsAnswer bodiless limit taken content left ended (Ok response) = IsResponse bodiless limit taken content left ended response
+IsAnswer bodiless limit taken content left ended
+    (Ok response) = IsResponse bodiless limit taken content left ended response
 IsAnswer bodiless limit taken content left ended (Err fault) =
     StopsInHeads taken content left ended fault
     ⊎ (StopsAtLength bodiless taken content ended fault ⊎ StopsInBody bodiless limit taken content left ended fault)
 
 -- a response was taken, its body behind the old bytes of a vector, or the reading ended
-pub record ReadsResponse (bodiless : Bool) (limit : ℕ) (before now : Option (List Connection)) (ahead old new : List ℕ) (result : Result Response HttpFault) : Type 0 where
+pub record ReadsResponse (bodiless : Bool) (limit : ℕ) (before now : Option (List Connection))
+    (ahead old new : List ℕ) (result : Result Response HttpFault) : Type 0 where
   pub taken : List ℕ
   pub content : List ℕ
   pub left : List ℕ
@@ -101,14 +107,16 @@ abbrev pub connection : List ℕ → List ℕ → Bool → Connection
 connection sent received ended = record { sent = sent; received = received; ended = ended }
 
 -- a connection was begun and these bytes sent; after a fault none was begun, or a front of the bytes was sent
-abbrev pub SendsRequest : {E : Type 0} → Option (List Connection) → Option (List Connection) → List ℕ → Result Unit E → Type 0
+abbrev pub SendsRequest : {E : Type 0} → Option (List Connection) → Option (List Connection) → List ℕ
+    → Result Unit E → Type 0
 SendsRequest before now bytes (Ok done) = Gains before now (connection bytes [] false ∷ [])
 SendsRequest before now bytes (Err fault) =
     Gains before now []
     ⊎ ((front behind : List ℕ) × (bytes ≡ front ++ behind) × Gains before now (connection front [] false ∷ []))
 
 -- the request was not sent, or not whole
-pub record IsUnsent (before now : Option (List Connection)) (request old new : List ℕ) (result : Result Response HttpFault) : Type 0 where
+pub record IsUnsent (before now : Option (List Connection)) (request old new : List ℕ)
+    (result : Result Response HttpFault) : Type 0 where
   pub fault : HttpFault
   pub failed : result ≡ Err fault
   pub outside : IsOutside fault
@@ -116,7 +124,8 @@ pub record IsUnsent (before now : Option (List Connection)) (request old new : L
   pub room : new ≡ old
 
 -- the request was sent, and these bytes received, to which this is the answer
-pub record IsAnswered (bodiless : Bool) (limit : ℕ) (before now : Option (List Connection)) (request old new : List ℕ) (result : Result Response HttpFault) : Type 0 where
+pub record IsAnswered (bodiless : Bool) (limit : ℕ) (before now : Option (List Connection))
+    (request old new : List ℕ) (result : Result Response HttpFault) : Type 0 where
   pub received : List ℕ
   pub ended : Bool
   pub connected : Gains before now (connection request received ended ∷ [])
@@ -128,6 +137,7 @@ pub record IsAnswered (bodiless : Bool) (limit : ℕ) (before now : Option (List
   pub answer : IsAnswer bodiless limit taken content left ended result
 
 -- what an exchange does
-abbrev pub Exchanges : Bool → ℕ → Option (List Connection) → Option (List Connection) → List ℕ → List ℕ → List ℕ → Result Response HttpFault → Type 0
+abbrev pub Exchanges : Bool → ℕ → Option (List Connection) → Option (List Connection) → List ℕ → List ℕ → List ℕ
+    → Result Response HttpFault → Type 0
 Exchanges bodiless limit before now request old new result =
     IsUnsent before now request old new result ⊎ IsAnswered bodiless limit before now request old new result

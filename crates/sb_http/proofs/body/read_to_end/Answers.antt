@@ -13,4 +13,5 @@ returns-in-Ok-Some-clause-told g c =
 
 pub returns-in-Err-take_byte-clause-told : goal.returns-in-Err-take_byte-clause-told
 returns-in-Err-take_byte-clause-told g c =
-    stops_there _ _ _ _ _ _ _ _ c.args.limit _ c.in-Err-take_byte.fault c.in-Ok.ensures.told c.if-got-limit.false c.in-Err-take_byte.ensures.told
+    stops_there _ _ _ _ _ _ _ _ c.args.limit _ c.in-Err-take_byte.fault c.in-Ok.ensures.told c.if-got-limit.false
+    c.in-Err-take_byte.ensures.told

@@ -8,7 +8,13 @@ use Rattle.sb_http.proofs.chunked.read_chunked.Goals as goal
 pub chunks-init : goal.chunks-init
 chunks-init g c = (
   [],
-  record { all = All-nil IsChunk; count = refl; fits = omega arith; room = sym (append-nil _); takes = takes_nothing _ _ },
+  record {
+    all = All-nil IsChunk;
+    count = refl;
+    fits = omega arith;
+    room = sym (append-nil _);
+    takes = takes_nothing _ _;
+  },
   omega arith,
 )
 
@@ -29,7 +35,8 @@ pub returns-in-Err-read_line-clause-told : goal.returns-in-Err-read_line-clause-
 returns-in-Err-read_line-clause-told g c =
     let before = c.chunks.invariant in
     let last = rw c.in-Ok-None.field-0-is at c.in-Ok-None.ensures.told in
-    trailer_stops _ _ _ _ _ _ _ _ _ _ _ c.args.limit c.chunks.got before.0 c.in-Err-read_line.fault before.1 last c.in-Err-read_line.ensures.told
+    trailer_stops _ _ _ _ _ _ _ _ _ _ _ c.args.limit c.chunks.got before.0 c.in-Err-read_line.fault before.1 last
+    c.in-Err-read_line.ensures.told
 
 pub returns-in-Err-clause-told : goal.returns-in-Err-clause-told
 returns-in-Err-clause-told g c =

@@ -6,7 +6,8 @@ pub returns-in-Ok-eq0-clause-told : goal.returns-in-Ok-eq0-clause-told
 returns-in-Ok-eq0-clause-told g c =
     let before = c.arrivals.invariant in
     let unfinished = rw c.in-Ok-None.field-0-is at c.in-Ok-None.ensures.told in
-    cut_head _ _ _ _ _ _ _ _ _ _ before.takes c.waiting.ensures c.waiting-came.ensures unfinished before.small c.if-came-eq-MAX_HEAD.false c.in-Ok-eq0.field-0-test c.in-Ok-eq0.ensures.told
+    cut_head _ _ _ _ _ _ _ _ _ _ before.takes c.waiting.ensures c.waiting-came.ensures unfinished before.small
+    c.if-came-eq-MAX_HEAD.false c.in-Ok-eq0.field-0-test c.in-Ok-eq0.ensures.told
 
 pub arrivals-preserved : goal.arrivals-preserved
 arrivals-preserved g c =

@@ -12,12 +12,14 @@ pub returns-in-Ok-Some-clause-told : goal.returns-in-Ok-Some-clause-told
 returns-in-Ok-Some-clause-told g c =
     let before = c.loop-passed.invariant in
     let told = rw c.in-Ok-Some.field-0-is at c.in-Ok-Some.ensures.told in
-    head_read _ _ _ _ _ _ before.0 c.in-Ok-Some.head before.1 (omega (arith, before.2, c.loop-passed-test.true)) before.4 told
+    head_read _ _ _ _ _ _ before.0 c.in-Ok-Some.head before.1 (omega
+    (arith, before.2, c.loop-passed-test.true)) before.4 told
 
 pub returns-in-Err-clause-told : goal.returns-in-Err-clause-told
 returns-in-Err-clause-told g c =
     let before = c.loop-passed.invariant in
-    head_stops _ _ _ _ _ [] before.0 c.in-Err.fault before.1 (omega (arith, before.2, c.loop-passed-test.true)) before.4 c.in-Err.ensures.told
+    head_stops _ _ _ _ _ [] before.0 c.in-Err.fault before.1 (omega
+    (arith, before.2, c.loop-passed-test.true)) before.4 c.in-Err.ensures.told
 
 pub loop-passed-preserved : goal.loop-passed-preserved
 loop-passed-preserved g c =
@@ -36,4 +38,5 @@ loop-passed-preserved g c =
 pub returns-clause-told : goal.returns-clause-told
 returns-clause-told g c =
     let before = c.loop-passed.invariant in
-    too_many_passed _ _ _ _ [] before.0 before.1 (omega (arith, before.2, c.loop-passed-test.false, c.loop-passed.auto.passed-end)) before.4
+    too_many_passed _ _ _ _ [] before.0 before.1 (omega
+    (arith, before.2, c.loop-passed-test.false, c.loop-passed.auto.passed-end)) before.4

@@ -12,5 +12,6 @@ invariant-loop-passed g l =
     let connections = g.W.Wire.connections in
     (heads : List ResponseHead) × All IsInterim heads × (length heads ≡ l.passed)
     × (length (pending l.window) ≤ MAX_HEAD)
-    × Takes (connections l.fn.wire) (connections l.wire) (pending l.fn.window) (pending l.window) (print_heads heads) false
+    × Takes (connections l.fn.wire) (connections l.wire) (pending l.fn.window) (pending l.window)
+    (print_heads heads) false
     × (g.W.Wire.faults l.fn.wire ≤ g.W.Wire.faults l.wire)

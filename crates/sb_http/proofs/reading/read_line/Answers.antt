@@ -13,7 +13,9 @@ returns-in-Ok-None-clause-told g c =
       takes_both before.3 told.1,
       (
         omega (arith, length-append before.0 [], before.1, c.loop-count-test.true),
-        is_open _ c.loop-count.line (subst (λ (bytes : List ℕ). read_from c.args.start bytes ≡ More c.loop-count.line) (sym (append-nil before.0)) before.2),
+        is_open _ c.loop-count.line (subst (λ
+            (bytes : List ℕ). read_from c.args.start bytes ≡ More c.loop-count.line)
+            (sym (append-nil before.0)) before.2),
       ),
       refl,
       refl,
