@@ -89,6 +89,61 @@ expect("an empty disk", run(["--stdio", "--size=0", "memory"], b"")[0], 2)
 expect("no words", run([], b"")[0], 2)
 
 
+def model(given, size):
+    """What a session of a disk of zeros has to come to: status, output and the line on standard error."""
+    out, disk, at = bytearray(GREETING), bytearray(size), 0
+
+    def take(count):
+        nonlocal at
+        at += count
+        return given[at - count:at] if at <= len(given) else None
+
+    well, ill = (lambda: (0, bytes(out), b"")), (lambda: (7, bytes(out), refused))
+    if not given:
+        return well()
+    flags = take(4)
+    if flags is None or int.from_bytes(flags, "big") > 3:
+        return ill()
+    if at == len(given):
+        return well()
+    if take(16) != EXPORT_NAME:
+        return ill()
+    out += export(size)[len(GREETING):] + (b"" if flags[3] & 2 else bytes(124))
+    while at < len(given):
+        asked = take(28)
+        if asked is None or asked[:4] != bytes.fromhex("25609513"):
+            return ill()
+        kind, cookie, offset, length = (int.from_bytes(part, "big") for part in (asked[6:8], asked[8:16], asked[16:24], asked[24:]))
+        if kind == WRITE and length > LARGEST:
+            return ill()
+        body = take(length) if kind == WRITE else b""
+        if body is None:
+            return ill()
+        past = offset + length > size
+        if kind == 2:
+            return well()
+        if kind not in (READ, WRITE, FLUSH) or asked[4:6] != bytes(2) or kind == READ and (length > LARGEST or past):
+            out += error(EINVAL, cookie)
+        elif kind == WRITE and past:
+            out += error(ENOSPC, cookie)
+        else:
+            if kind == WRITE:
+                disk[offset:offset + length] = body
+            out += error(0, cookie) + (bytes(disk[offset:offset + length]) if kind == READ else b"")
+    return well()
+
+
+SEVERAL = OPEN + write(1, 4090, b"several") + read(2, 4090, 7) + flush(3) + read(4, 0, 3) + DISC
+for cut in range(len(SEVERAL) + 1):
+    expect(f"a session cut at {cut}", run(SMALL, SEVERAL[:cut]), model(SEVERAL[:cut], 65536))
+for place in range(len(SEVERAL)):
+    for value in {0, 1, 127, 255, SEVERAL[place] ^ 2}:
+        changed = SEVERAL[:place] + bytes([value]) + SEVERAL[place + 1:]
+        expect(f"a session with byte {place} made {value}", run(SMALL, changed), model(changed, 65536))
+LONGEST = OPEN + write(1, 4096, random.Random(1).randbytes(LARGEST)) + read(2, 4096, LARGEST) + read(3, 0, LARGEST + 1) + DISC
+expect("the longest write and read", run(["--stdio", "--size=64m", "memory"], LONGEST) == model(LONGEST, 67108864), True)
+
+
 def random_session(seed, size, count):
     """The requests of a session that a seed gives, and the replies that an array of bytes would make."""
     choice = random.Random(seed)
