@@ -45,6 +45,18 @@ pub(crate) fn session<L: Link + Drop>(
 ) -> Result<Rehearsal<L>, AllocError>
     requires { piece ≢ 0 }
 {
+    let input = MemoryConn::source(joined(alloc, pieces)?, piece, Vec::new(alloc));
+    let output = MemoryConn::sink(alloc, Vec::new(alloc));
+    session_over(alloc, link, input, output)
+}
+
+/// A session of a disk of 64k over a link and these ends of a connection.
+pub(crate) fn session_over<L: Link + Drop>(
+    alloc: Global,
+    link: L,
+    input: MemoryConn,
+    output: MemoryConn,
+) -> Result<Rehearsal<L>, AllocError> {
     let mut words = Vec::new(alloc);
     for word in ["--stdio", "--size=64k", "memory"] {
         words.push(String::from_str(alloc, word)?)?;
@@ -54,8 +66,8 @@ pub(crate) fn session<L: Link + Drop>(
         words.as_slice(),
         link,
         HandClock::new(alloc, 1000, 0, false),
-        MemoryConn::source(joined(alloc, pieces)?, piece, Vec::new(alloc)),
-        MemoryConn::sink(alloc, Vec::new(alloc)),
+        input,
+        output,
         MemoryConn::sink(alloc, Vec::new(alloc)),
     )
 }

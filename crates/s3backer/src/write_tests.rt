@@ -3,11 +3,11 @@
 ghost use Rattle.std.specs.Prelude.{◌≢◌, ◌<◌, None};
 
 use crate::settings::SETTINGS;
-use crate::tests::{DISC, HANDSHAKE, OPENING, errors, joined, output, session};
-use sb_base::{Geometry, Kind, Line, Part};
+use crate::tests::{DISC, HANDSHAKE, OPENING, errors, joined, output, session, session_over};
+use sb_base::{Geometry, Kind, Line, Part, Text};
 use sb_core::Core;
 use sb_crew::{Alone, Calls, Desk};
-use sb_fakes::{Failing, HandClock, PlainStore};
+use sb_fakes::{Failing, HandClock, MemoryConn, PlainStore};
 use sb_world::{Got, Link, Tape};
 use std::alloc::{AllocError, Global};
 use std::test::Fail;
@@ -205,6 +205,12 @@ fn a_failed_call_loses_nothing_that_was_flushed(rt: HostRuntime) -> Result<(), F
         assert!(rt; first == Some(0) || first == Some(5));
         assert!(rt; second == Some(0) || second == Some(5));
         assert!(rt; flush == Some(0) || flush == Some(5));
+        if done.status == 3 {
+            assert_eq!(rt; errors(&done), b"s3backer: store fault 503\n".as_slice());
+        } else {
+            assert_eq!(rt; done.status, 0);
+            assert_eq!(rt; errors(&done).len(), 0);
+        }
         if flush == Some(0) || done.status == 0 {
             let bench = match &mut done.world.last {
                 Some(bench) => bench,
@@ -290,4 +296,53 @@ fn random_requests_get_the_replies_of_an_array(rt: HostRuntime) -> Result<(), Fa
     assert_eq!(rt; done.status, 0);
     assert!(rt; output(&done) == wanted.as_slice());
     Ok(())
+}
+
+/// The requests of a short session: a WRITE, a FLUSH and DISC.
+fn short_session(alloc: Global) -> Result<Text, AllocError> {
+    let write = request(alloc, WRITE, 1, 100, 7)?;
+    let flush = request(alloc, FLUSH, 2, 0, 0)?;
+    joined(alloc, &[OPENING, &write, b"several", &flush, DISC])
+}
+
+#[test]
+fn a_read_that_fails_is_told(rt: HostRuntime) -> Result<(), Fail> {
+    let alloc = rt.alloc();
+    for call in 1..40 {
+        let fails = Vec::from_array(alloc, [call])?;
+        let input = MemoryConn::source(short_session(alloc)?, 16, fails);
+        let output = MemoryConn::sink(alloc, Vec::new(alloc));
+        let done = session_over(alloc, PlainStore::new(alloc), input, output)?;
+        if done.status == 0 {
+            assert!(rt; call > 8);
+            return Ok(());
+        }
+        assert_eq!(rt; done.status, 7);
+        assert_eq!(rt;
+            errors(&done),
+            b"s3backer: session: read fault\n".as_slice()
+        );
+    }
+    Err(Fail::from("every session met a failure"))
+}
+
+#[test]
+fn a_write_of_a_reply_that_fails_is_told(rt: HostRuntime) -> Result<(), Fail> {
+    let alloc = rt.alloc();
+    for call in 1..40 {
+        let fails = Vec::from_array(alloc, [call])?;
+        let input = MemoryConn::source(short_session(alloc)?, 4096, Vec::new(alloc));
+        let output = MemoryConn::sink(alloc, fails);
+        let done = session_over(alloc, PlainStore::new(alloc), input, output)?;
+        if done.status == 0 {
+            assert!(rt; call > 3);
+            return Ok(());
+        }
+        assert_eq!(rt; done.status, 7);
+        assert_eq!(rt;
+            errors(&done),
+            b"s3backer: session: write fault\n".as_slice()
+        );
+    }
+    Err(Fail::from("every session met a failure"))
 }
