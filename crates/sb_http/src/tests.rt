@@ -302,17 +302,125 @@ fn each_call_of_the_wire_may_fail(rt: HostRuntime) -> Result<(), Fail> {
     Ok(())
 }
 
+/// What a cut in a body tells.
+#[derive(Drop, Clone, Copy)]
+enum Body {
+    /// It has this length.
+    Length(u64),
+    Chunks,
+    /// It goes on to the end of the input.
+    ToTheEnd,
+}
+
+/// A response in its parts. Of the body's pieces each has its length, and whether it is content.
+#[derive(Drop, Clone, Copy)]
+struct Whole {
+    interim: &'static [u8],
+    head: &'static [u8],
+    status: u16,
+    body: &'static [u8],
+    pieces: &'static [(usize, bool)],
+    kind: Body,
+}
+
+impl Whole {
+    /// How many of the first bytes of the body are content.
+    fn content_before(&self, cut: usize) -> u64 {
+        let mut left = cut;
+        let mut content: u64 = 0;
+        for (length, is_content) in self.pieces {
+            let count = left.min(*length);
+            if *is_content {
+                content = content.saturating_add(count as u64);
+            }
+            left -= count;
+        }
+        content
+    }
+
+    /// What is told of its first bytes.
+    fn outcome_at(&self, cut: usize) -> Outcome {
+        let interim = self.interim.len();
+        let head = interim.saturating_add(self.head.len());
+        if cut < interim {
+            return Outcome::HeadCut(cut as u64);
+        }
+        if cut < head {
+            return Outcome::HeadCut((cut - interim) as u64);
+        }
+        let came = cut - head;
+        let content = self.content_before(came);
+        if came == self.body.len() {
+            return Outcome::Response(self.status, content);
+        }
+        match self.kind {
+            Body::Length(length) => Outcome::BodyCut(Some(length), content),
+            Body::Chunks => Outcome::BodyCut(None, content),
+            Body::ToTheEnd => Outcome::Response(self.status, content),
+        }
+    }
+
+    /// Whether each front of it is told as it should be.
+    fn is_told_at_each_cut(&self, alloc: Global) -> Result<bool, Fail> {
+        let mut answer = Vec::from_slice(alloc, self.interim)?;
+        answer.extend_from_slice(self.head)?;
+        answer.extend_from_slice(self.body)?;
+        for cut in 0..answer.len() + 1 {
+            let front = answer.get(..cut).unwrap_or(&[]);
+            if outcome_to(alloc, front, 4)? != self.outcome_at(cut) {
+                return Ok(false);
+            }
+        }
+        Ok(true)
+    }
+}
+
 #[test]
-fn a_response_that_is_cut_tells_how_much_came(rt: HostRuntime) -> Result<(), Fail> {
-    let answer = b"HTTP/1.1 200 OK\r\ncontent-length: 5\r\n\r\nhello".as_slice();
-    let head = answer.len() - 5;
-    for cut in 0..answer.len() {
-        let wanted = if cut < head {
-            Outcome::HeadCut(cut as u64)
-        } else {
-            Outcome::BodyCut(Some(5), (cut - head) as u64)
-        };
-        assert!(rt; outcome_to(rt.alloc(), &answer[..cut], 4)? == wanted);
+fn responses_that_are_cut_tell_how_much_came(rt: HostRuntime) -> Result<(), Fail> {
+    let wholes = [
+        Whole {
+            interim: b"",
+            head: b"HTTP/1.1 200 OK\r\ncontent-length: 5\r\n\r\n",
+            status: 200,
+            body: b"hello",
+            pieces: &[(5, true)],
+            kind: Body::Length(5),
+        },
+        Whole {
+            interim: b"",
+            head: b"HTTP/1.1 200 OK\r\ntransfer-encoding: chunked\r\n\r\n",
+            status: 200,
+            body: b"3;a=b\r\nhel\r\n2\r\nlo\r\n0\r\nx: y\r\n\r\n",
+            pieces: &[(7, false), (3, true), (5, false), (2, true), (13, false)],
+            kind: Body::Chunks,
+        },
+        Whole {
+            interim: b"",
+            head: b"HTTP/1.0 200 OK\r\n\r\n",
+            status: 200,
+            body: b"hello",
+            pieces: &[(5, true)],
+            kind: Body::ToTheEnd,
+        },
+        Whole {
+            interim: b"HTTP/1.1 100 Continue\r\n\r\n",
+            head: b"HTTP/1.1 404 Not Found\r\nserver: x\r\ncontent-length: 12\r\n\r\n",
+            status: 404,
+            body: b"no such key\n",
+            pieces: &[(12, true)],
+            kind: Body::Length(12),
+        },
+        Whole {
+            interim: b"",
+            head: b"HTTP/1.1 204 No Content\r\ncontent-length: 7\r\n\r\n",
+            status: 204,
+            body: b"",
+            pieces: &[],
+            kind: Body::Length(0),
+        },
+    ];
+    for whole in wholes {
+        assert!(rt; whole.is_told_at_each_cut(rt.alloc())?);
     }
     Ok(())
 }
