@@ -14,25 +14,35 @@ mod write_tests;
 use crate::host::HostWorld;
 use crate::top::run;
 use sb_world::NoTape;
-use std::env;
 use std::process::ExitCode;
-
-/// The status where the words that the program is called with can't be read.
-const UNREADABLE_WORDS: u8 = 2;
+use std::{env, io};
 
 fn main(rt: HostRuntime) -> ExitCode {
-    let mut words = Vec::new(rt.alloc());
-    match env::args(&rt) {
-        Ok(args) => {
-            for word in args.skip(1) {
-                if words.push(word).is_err() {
-                    return ExitCode::from(12);
-                }
-            }
-        }
-        Err(_) => return ExitCode::from(UNREADABLE_WORDS),
-    }
+    let words = match given_words(&rt) {
+        Ok(words) => words,
+        Err(fault) => return refuse(&rt, &fault),
+    };
     let mut world = HostWorld::new(rt);
     let outcome = run(rt.alloc(), words.as_slice(), &mut world, NoTape);
     ExitCode::from(outcome.status)
+}
+
+/// The words behind the program's name.
+fn given_words(rt: &HostRuntime) -> io::Result<Vec<String>> {
+    let mut words = Vec::new(rt.alloc());
+    for word in env::args(rt)?.skip(1) {
+        words.push(word)?;
+    }
+    Ok(words)
+}
+
+/// Tells why the words can't be read: want of memory, or a word that isn't UTF-8.
+fn refuse(rt: &HostRuntime, fault: &io::Error) -> ExitCode {
+    let (status, line) = match fault.kind() {
+        io::ErrorKind::OutOfMemory => (12, b"s3backer: out of memory\n".as_slice()),
+        _ => (2, b"s3backer: usage: a word is not UTF-8\n".as_slice()),
+    };
+    match rt.stderr().write_all(line) {
+        Ok(()) | Err(_) => ExitCode::from(status),
+    }
 }
