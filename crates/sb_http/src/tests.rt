@@ -145,7 +145,7 @@ fn chunked_bodies_that_are_cut_tell_what_came(rt: HostRuntime) -> Result<(), Fai
 #[test]
 fn responses_are_told_as_the_table_says(rt: HostRuntime) -> Result<(), Fail> {
     let a = rt.alloc();
-    let rows: [(&[u8], Outcome); 21] = [
+    let rows: [(&[u8], Outcome); 23] = [
         (b"", Outcome::HeadCut(0)),
         (
             b"HTTP/1.1 200 OK\r\ncontent-length: 11\r\n\r\nhello world",
@@ -216,6 +216,14 @@ fn responses_are_told_as_the_table_says(rt: HostRuntime) -> Result<(), Fail> {
         (
             b"HTTP/1.1 200 OK\r\ntransfer-encoding: gzip, chunked\r\n\r\n5\r\nhello",
             Outcome::Response(200, 8),
+        ),
+        (
+            b"HTTP/1.1 200 OK\r\ntransfer-encoding: chunked\r\n\r\n00000000000000000000000000000000005\r\nhello\r\n0\r\n\r\n",
+            Outcome::Response(200, 5),
+        ),
+        (
+            b"HTTP/1.1 200 OK\r\nServer: AmazonS3\r\nVia: a\r\nVIA: b\r\nX: 1\r\nX: 2\r\nContent-Length: 5\r\n\r\nhello",
+            Outcome::Response(200, 5),
         ),
         (b"HTTX/1.1 200 OK\r\n\r\n", Outcome::BadHead),
     ];
