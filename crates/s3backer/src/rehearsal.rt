@@ -17,9 +17,9 @@ pub struct Rehearsal<L> {
     pub world: MemoryWorld<L>,
 }
 
-/// Runs the program on these words over a link, a clock, a source and two sinks. What `run` promises holds of the entries on
-/// the tape, the link's log, the clock's readings and the bytes of the connections, with nothing left untold but a tape or a
-/// log whose growth was refused.
+/// Runs the program on these words over a link, a clock, a source and two sinks. What `run` promises holds of the
+/// entries on the tape, the link's log, the clock's readings and the bytes of the connections, with nothing left untold
+/// but a tape or a log whose growth was refused.
 pub fn rehearse<L: Link + Drop>(
     alloc: Global,
     words: &[String],
@@ -29,7 +29,10 @@ pub fn rehearse<L: Link + Drop>(
     output: MemoryConn,
     errors: MemoryConn,
 ) -> Result<Rehearsal<L>, AllocError>
-    ensures { IfOk result (λ done. RunEnds L.log L.faults ticks_of bytes_of faults_of bytes_of faults_of (map string_bytes words.now) 0 (world_faults done.world) (Some (record { links = link ∷ []; clock = clock; input = input; output = output; errors = errors })) true done.world.last (Some []) (entries_of done.tape) (Some []) (said_of done.world) done.status) }
+    ensures { IfOk result (λ done. RunEnds L.log L.faults ticks_of bytes_of faults_of bytes_of faults_of
+        (map string_bytes words.now) 0 (world_faults done.world) (Some
+        (record { links = link ∷ []; clock = clock; input = input; output = output; errors = errors })) true
+        done.world.last (Some []) (entries_of done.tape) (Some []) (said_of done.world) done.status) }
 {
     let mut links = Vec::new(alloc);
     links.push(link)?;

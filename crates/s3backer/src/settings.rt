@@ -2,8 +2,8 @@
 
 use sb_base::Settings;
 
-/// The settings of every disk: a cache of one block and no MD5 window, so that puts aren't spaced. The other values have no
-/// effect yet.
+/// The settings of every disk: a cache of one block and no MD5 window, so that puts aren't spaced. The other values
+/// have no effect yet.
 pub const SETTINGS: Settings = Settings {
     min_write_delay: 0,
     md5_time: 0,

@@ -6,7 +6,20 @@ ghost use Rattle.sb_base.specs.Shapes.{IsSound};
 ghost use Rattle.sb_core.specs.Represents.{geometry_of};
 ghost use Rattle.sb_crew.specs.Desks.{HasRoom};
 ghost use Rattle.s3backer.specs.Fresh.{IsFresh};
-ghost use Rattle.s3backer.specs.Headline.{run_status, run_line, flush_line, store_fault_line, ComplainsOf, Complains, ServesSession, Serves, ServesBench, RunEnds, SaysUsage, IsUsageLine};
+ghost use Rattle.s3backer.specs.Headline.{
+  run_status,
+  run_line,
+  flush_line,
+  store_fault_line,
+  ComplainsOf,
+  Complains,
+  ServesSession,
+  Serves,
+  ServesBench,
+  RunEnds,
+  SaysUsage,
+  IsUsageLine,
+};
 
 use crate::settings::SETTINGS;
 use crate::words::{PlanFault, Usage, plan};
@@ -46,7 +59,8 @@ fn status_of(end: SessionEnd, flushed: Result<(), CallFault>) -> u8
 
 /// Writes the line of the first fault of a session and the flush after it, if there is one.
 fn complain_of<S: Sink>(errors: &mut S, end: SessionEnd, flushed: Result<(), CallFault>)
-    ensures { ComplainsOf (run_line end flushed) (S.held errors.old) (S.held errors.new) (S.faults errors.old) (S.faults errors.new) }
+    ensures { ComplainsOf (run_line end flushed) (S.held errors.old) (S.held errors.new) (S.faults errors.old)
+        (S.faults errors.new) }
 {
     match end {
         SessionEnd::Disconnected | SessionEnd::Ended => complain_of_flush(errors, flushed),
@@ -59,7 +73,8 @@ fn complain_of<S: Sink>(errors: &mut S, end: SessionEnd, flushed: Result<(), Cal
 
 /// Writes the line of a flush's fault, if it has one.
 fn complain_of_flush<S: Sink>(errors: &mut S, flushed: Result<(), CallFault>)
-    ensures { ComplainsOf (flush_line flushed) (S.held errors.old) (S.held errors.new) (S.faults errors.old) (S.faults errors.new) }
+    ensures { ComplainsOf (flush_line flushed) (S.held errors.old) (S.held errors.new) (S.faults errors.old)
+        (S.faults errors.new) }
 {
     match flushed {
         Ok(()) => {}
@@ -116,7 +131,9 @@ fn serve_disk<L: Link, C: Clock, R: Source, S: Sink, T: Tape>(
     requires sound { IsSound (geometry_of core) }
     requires fresh { IsFresh (geometry_of core) core }
     requires room { HasRoom (geometry_of core) desk }
-    ensures { ServesSession L.log L.faults C.ticks R.left R.faults S.held S.faults (geometry_of core) desk.link result.2 desk.clock result.3 input.old input.new output.old output.new errors.old errors.new (T.told tape) (T.told result.1) result.0 }
+    ensures { ServesSession L.log L.faults C.ticks R.left R.faults S.held S.faults
+        (geometry_of core) desk.link result.2 desk.clock result.3 input.old input.new output.old output.new errors.old
+        errors.new (T.told tape) (T.told result.1) result.0 }
 {
     unwindowed_is_legal();
     unwindowed_flushes();
@@ -142,7 +159,8 @@ fn serve_parts<L: Link + Drop, C: Clock + Drop, R: Source, S: Sink, T: Tape + Dr
     errors: &mut S,
 ) -> (u8, T, L, C)
     requires { IsSound geometry }
-    ensures { Serves L.log L.faults C.ticks R.left R.faults S.held S.faults geometry link result.2 clock result.3 input.old input.new output.old output.new errors.old errors.new (T.told tape) (T.told result.1) result.0 }
+    ensures { Serves L.log L.faults C.ticks R.left R.faults S.held S.faults geometry link result.2 clock result.3
+        input.old input.new output.old output.new errors.old errors.new (T.told tape) (T.told result.1) result.0 }
 {
     let (core, buffer) = match make(alloc, geometry) {
         Ok(made) => made,
@@ -170,7 +188,8 @@ fn serve_bench<L: Link + Drop, C: Clock + Drop, R: Source, S: Sink, T: Tape + Dr
 ) -> (u8, T, Bench<L, C, R, S>)
     requires sound { IsSound geometry }
     requires one { length bench.links ≡ 1 }
-    ensures { ServesBench L.log L.faults C.ticks R.left R.faults S.held S.faults geometry bench result.2 (T.told tape) (T.told result.1) result.0 }
+    ensures { ServesBench L.log L.faults C.ticks R.left R.faults S.held S.faults geometry bench result.2
+        (T.told tape) (T.told result.1) result.0 }
 {
     let Bench {
         mut links,
@@ -209,10 +228,10 @@ fn serve_bench<L: Link + Drop, C: Clock + Drop, R: Source, S: Sink, T: Tape + Dr
 
 /// Runs the program on these words in a world, with its history on the tape.
 ///
-/// The status is 0 where the session ended at DISC or between two messages and the store has all that was written, 2 where
-/// the words aren't taken, 3 where the store can't be reached or the last flush failed, 7 where the session ended otherwise,
-/// and 12 for want of memory. A status other than 0 has its line on the bench's error sink, or is said where there is no
-/// bench.
+/// The status is 0 where the session ended at DISC or between two messages and the store has all that was written, 2
+/// where the words aren't taken, 3 where the store can't be reached or the last flush failed, 7 where the session ended
+/// otherwise, and 12 for want of memory. A status other than 0 has its line on the bench's error sink, or is said where
+/// there is no bench.
 pub fn run<W: World, T: Tape + Drop>(
     alloc: Global,
     words: &[String],
@@ -222,7 +241,9 @@ pub fn run<W: World, T: Tape + Drop>(
 where
     W::Link: Drop,
     W::Clock: Drop,
-    ensures { RunEnds W.Link.log W.Link.faults W.Clock.ticks W.Source.left W.Source.faults W.Sink.held W.Sink.faults (map string_bytes words.now) (W.faults world.old) (W.faults world.new) (W.next world.old) (W.tells world.old) (W.last world.new) (T.told tape) (T.told result.tape) (W.said world.old) (W.said world.new) result.status }
+    ensures { RunEnds W.Link.log W.Link.faults W.Clock.ticks W.Source.left W.Source.faults W.Sink.held W.Sink.faults
+        (map string_bytes words.now) (W.faults world.old) (W.faults world.new) (W.next world.old) (W.tells world.old)
+        (W.last world.new) (T.told tape) (T.told result.tape) (W.said world.old) (W.said world.new) result.status }
 {
     let geometry = match plan(alloc, words) {
         Ok(geometry) => geometry,

@@ -29,8 +29,8 @@ pub enum PlanFault {
     Memory,
 }
 
-/// Reads the words `--stdio --size=SIZE memory`. Other words are `NotBuilt`, a size that doesn't read is `BadSize`, and one
-/// that no disk has is `Geometry`.
+/// Reads the words `--stdio --size=SIZE memory`. Other words are `NotBuilt`, a size that doesn't read is `BadSize`, and
+/// one that no disk has is `Geometry`.
 pub fn plan(alloc: Global, words: &[String]) -> Result<Geometry, PlanFault>
     ensures plan { IsPlan (map string_bytes words.now) result }
     ensures sound { IfOk result IsSound }

@@ -56,7 +56,8 @@ impl<T: Tape> Alone<T> {
 
     /// Adds an event at a reading that was taken for it.
     pub(crate) fn note(&mut self, now: u64, kind: Kind<'_>)
-        ensures told { Gains (T.told self.old.tape) (T.told self.new.tape) (record { pass = 1; reading = max now self.old.reading; kind = entry_kind_of kind.entry } ∷ []) }
+        ensures told { Gains (T.told self.old.tape) (T.told self.new.tape)
+            (record { pass = 1; reading = max now self.old.reading; kind = entry_kind_of kind.entry } ∷ []) }
         ensures core { self.new.core ≡ self.old.core }
         ensures reading { self.new.reading ≡ max now self.old.reading }
     {
@@ -79,7 +80,9 @@ impl<T: Tape, L: Link, C: Clock> Calls<Desk<L, C>> for Alone<T> {
 
     ghost ready = { λ disk desk. IsReady disk.core disk.reading (vec_len desk.room) };
 
-    ghost did = { λ disk desk disk' desk' entries calls. Did disk.core disk'.core (T.told disk.tape) (T.told disk'.tape) (L.log desk.link) (L.log desk'.link) (L.faults desk.link) (L.faults desk'.link) (C.ticks desk.clock) (C.ticks desk'.clock) entries calls };
+    ghost did = { λ disk desk disk' desk' entries calls. Did disk.core disk'.core (T.told disk.tape)
+        (T.told disk'.tape) (L.log desk.link) (L.log desk'.link) (L.faults desk.link) (L.faults desk'.link)
+        (C.ticks desk.clock) (C.ticks desk'.clock) entries calls };
 
     ghost did_nothing = { λ disk desk. did_nothing };
 

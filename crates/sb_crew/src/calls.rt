@@ -26,7 +26,8 @@ pub trait Calls<K> {
     /// A call may be made.
     ghost ready: { Self → K → Type 0 };
 
-    /// What happened from one state of disk and desk to another: these entries and these calls of the link, the newest first.
+    /// What happened from one state of disk and desk to another: these entries and these calls of the link, the newest
+    /// first.
     ghost did: { Self → K → Self → K → List Entry → List Call → Type 0 };
 
     /// Nothing happens from a state to itself.

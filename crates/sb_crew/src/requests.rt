@@ -76,7 +76,9 @@ impl<T: Tape> Alone<T> {
         requires job { HasGet self.old.core 1 job }
         requires current { self.old.reading ≡ reading_of self.old.core }
         requires room { length room.old ≡ (geometry_of self.old.core).block_size }
-        ensures did { FetchDoes (Runs self.old.core self.new.core (T.told self.old.tape) (T.told self.new.tape) (C.ticks clock.old) (C.ticks clock.new)) (Gains (L.log link.old) (L.log link.new)) (CountsFaults (L.faults link.old) (L.faults link.new)) job.block job.verify result }
+        ensures did { FetchDoes (Runs self.old.core self.new.core (T.told self.old.tape) (T.told self.new.tape)
+            (C.ticks clock.old) (C.ticks clock.new)) (Gains (L.log link.old) (L.log link.new))
+            (CountsFaults (L.faults link.old) (L.faults link.new)) job.block job.verify result }
         ensures ready { IsReady self.new.core self.new.reading (length room.new) }
         ensures closer { OnOk result (IsCloser self.old.core self.new.core) }
     {
@@ -97,7 +99,8 @@ impl<T: Tape> Alone<T> {
         requires asked { IsAsked got job.verify }
         requires current { self.old.reading ≡ reading_of self.old.core }
         requires room { length room.now ≡ (geometry_of self.old.core).block_size }
-        ensures did { AnswerDoes (Runs self.old.core self.new.core (T.told self.old.tape) (T.told self.new.tape) (C.ticks clock.old) (C.ticks clock.new)) job.block job.verify got room.now result }
+        ensures did { AnswerDoes (Runs self.old.core self.new.core (T.told self.old.tape) (T.told self.new.tape)
+            (C.ticks clock.old) (C.ticks clock.new)) job.block job.verify got room.now result }
         ensures ready { IsReady self.new.core self.new.reading (length room.now) }
         ensures closer { OnOk result (IsCloser self.old.core self.new.core) }
     {
@@ -130,7 +133,10 @@ impl<T: Tape> Alone<T> {
         requires zeros { job.zeros ≡ is_zeros room.now }
         requires current { self.old.reading ≡ reading_of self.old.core }
         requires room { length room.now ≡ (geometry_of self.old.core).block_size }
-        ensures did { StoreDoes (Runs self.old.core self.new.core (T.told self.old.tape) (T.told self.new.tape) (C.ticks clock.old) (C.ticks clock.new)) (Gains (L.log link.old) (L.log link.new)) (CountsFaults (L.faults link.old) (L.faults link.new)) (sizes_of (geometry_of self.old.core)) job.block room.now result }
+        ensures did { StoreDoes (Runs self.old.core self.new.core (T.told self.old.tape) (T.told self.new.tape)
+            (C.ticks clock.old) (C.ticks clock.new)) (Gains (L.log link.old) (L.log link.new))
+            (CountsFaults (L.faults link.old) (L.faults link.new)) (sizes_of (geometry_of self.old.core))
+            job.block room.now result }
         ensures ready { IsReady self.new.core self.new.reading (length room.now) }
         ensures closer { OnOk result (IsCloser self.old.core self.new.core) }
     {
@@ -151,7 +157,8 @@ impl<T: Tape> Alone<T> {
         zeros: bool,
     ) -> Result<(), LinkFault>
         requires { zeros ≡ is_zeros content.now }
-        ensures told { Gains (L.log link.old) (L.log link.new) (put_call (block_name block) (meta_of (Some (sizes_of (geometry_of self.now.core))) block) content.now (fault_of result) ∷ []) }
+        ensures told { Gains (L.log link.old) (L.log link.new) (put_call (block_name block)
+            (meta_of (Some (sizes_of (geometry_of self.now.core))) block) content.now (fault_of result) ∷ []) }
         ensures cause { CountsFaults (L.faults link.old) (L.faults link.new) (HasFailed result) }
     {
         let name = block_name(block);

@@ -44,7 +44,9 @@ impl<T: Tape> Alone<T> {
         requires ready { IsReady self.old.core self.old.reading (length room.old) }
         requires part { IsPart (geometry_of self.old.core) part }
         requires bytes { length bytes.now ≡ part.length }
-        ensures runs { Runs self.old.core self.new.core (T.told self.old.tape) (T.told self.new.tape) (C.ticks clock.old) (C.ticks clock.new) (write_entry 1 self.new.reading part bytes.now room.new result ∷ []) }
+        ensures runs { Runs self.old.core self.new.core (T.told self.old.tape) (T.told self.new.tape)
+            (C.ticks clock.old) (C.ticks clock.new)
+            (write_entry 1 self.new.reading part bytes.now room.new result ∷ []) }
         ensures answer { AnswersWrite self.old.core self.new.reading part result }
         ensures copies { CopiesWrite self.old.core room.new result }
         ensures leads { WriteLeads self.old.core self.new.core 1 part.block result }
@@ -67,7 +69,9 @@ impl<T: Tape> Alone<T> {
         requires ready { IsReady self.old.core self.old.reading (vec_len desk.old.room) }
         requires part { IsPart (geometry_of self.old.core) part }
         requires bytes { length bytes.now ≡ part.length }
-        ensures did { WriteDoes (Did self.old.core self.new.core (T.told self.old.tape) (T.told self.new.tape) (L.log desk.old.link) (L.log desk.new.link) (L.faults desk.old.link) (L.faults desk.new.link) (C.ticks desk.old.clock) (C.ticks desk.new.clock)) part bytes.now result }
+        ensures did { WriteDoes (Did self.old.core self.new.core (T.told self.old.tape) (T.told self.new.tape)
+            (L.log desk.old.link) (L.log desk.new.link) (L.faults desk.old.link) (L.faults desk.new.link)
+            (C.ticks desk.old.clock) (C.ticks desk.new.clock)) part bytes.now result }
         ensures ready { IsReady self.new.core self.new.reading (vec_len desk.new.room) }
     {
         let link = &mut desk.link;

@@ -23,8 +23,8 @@ pub struct HandClock {
 }
 
 impl HandClock {
-    /// A clock at a reading in milliseconds, whose moment in seconds since 1970 stands still. A pause moves the reading, at
-    /// most to 2^62; that of a stalled clock stands still too.
+    /// A clock at a reading in milliseconds, whose moment in seconds since 1970 stands still. A pause moves the
+    /// reading, at most to 2^62; that of a stalled clock stands still too.
     pub fn new(alloc: Global, reading: u64, moment: i64, stalled: bool) -> HandClock
         requires { reading ≤ 2 ^ 62 }
         ensures ticks { result.ticks ≡ Some [] }

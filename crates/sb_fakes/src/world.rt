@@ -38,7 +38,8 @@ impl<L: Link + Drop> MemoryWorld<L> {
         inputs: Vec<MemoryConn>,
         sinks: Vec<MemoryConn>,
     ) -> MemoryWorld<L>
-        ensures parts { (result.links ≡ links) × (result.clocks ≡ clocks) × (result.inputs ≡ inputs) × (result.sinks ≡ sinks) }
+        ensures parts { (result.links ≡ links) × (result.clocks ≡ clocks) × (result.inputs ≡ inputs) ×
+            (result.sinks ≡ sinks) }
         ensures faults { result.faults ≡ 0 }
         ensures said { told_list result.said.items result.said_whole ≡ Some [] }
     {
@@ -57,7 +58,8 @@ impl<L: Link + Drop> MemoryWorld<L> {
 
     /// Whether there are the parts of a bench with so many links.
     fn has_parts(&self, links: usize) -> bool
-        ensures { result ≡ true → (links ≤ vec_len self.now.links) × (0 < vec_len self.now.clocks) × (0 < vec_len self.now.inputs) × (2 ≤ vec_len self.now.sinks) }
+        ensures { result ≡ true → (links ≤ vec_len self.now.links) × (0 < vec_len self.now.clocks) ×
+            (0 < vec_len self.now.inputs) × (2 ≤ vec_len self.now.sinks) }
     {
         self.links.len() >= links
             && !self.clocks.is_empty()
@@ -121,7 +123,8 @@ impl<L: Link + Drop> World for MemoryWorld<L> {
     fn shut(&mut self, bench: MemoryBench<L>)
         ensures last { self.new.last ≡ Some bench }
         ensures faults { self.old.faults ≤ self.new.faults }
-        ensures frame { told_list self.new.said.items self.new.said_whole ≡ told_list self.old.said.items self.old.said_whole }
+        ensures frame { told_list self.new.said.items self.new.said_whole ≡ told_list self.old.said.items
+            self.old.said_whole }
     {
         self.last = Some(bench);
     }

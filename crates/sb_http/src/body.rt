@@ -20,7 +20,8 @@ pub(crate) fn read_body<W: Wire>(
     limit: u64,
     room: &mut Vec<u8>,
 ) -> Result<u64, HttpFault>
-    ensures told { ReadsBody framing limit (W.connections wire.old) (W.connections wire.new) (pending window.old) room.old.items room.new.items result }
+    ensures told { ReadsBody framing limit (W.connections wire.old) (W.connections wire.new)
+        (pending window.old) room.old.items room.new.items result }
     ensures cause { CountsFaults (W.faults wire.old) (W.faults wire.new) (IsErrOf result HttpFault.WireFault) }
 {
     match framing {
@@ -39,7 +40,8 @@ fn read_sized<W: Wire>(
     limit: u64,
     room: &mut Vec<u8>,
 ) -> Result<u64, HttpFault>
-    ensures told { ReadsBody (Framing.Sized size) limit (W.connections wire.old) (W.connections wire.new) (pending window.old) room.old.items room.new.items result }
+    ensures told { ReadsBody (Framing.Sized size) limit (W.connections wire.old) (W.connections wire.new)
+        (pending window.old) room.old.items room.new.items result }
     ensures cause { CountsFaults (W.faults wire.old) (W.faults wire.new) (IsErrOf result HttpFault.WireFault) }
 {
     if size > limit {
@@ -68,7 +70,8 @@ fn read_to_end<W: Wire>(
     limit: u64,
     room: &mut Vec<u8>,
 ) -> Result<u64, HttpFault>
-    ensures told { ReadsBody Framing.ToEnd limit (W.connections wire.old) (W.connections wire.new) (pending window.old) room.old.items room.new.items result }
+    ensures told { ReadsBody Framing.ToEnd limit (W.connections wire.old) (W.connections wire.new)
+        (pending window.old) room.old.items room.new.items result }
     ensures cause { CountsFaults (W.faults wire.old) (W.faults wire.new) (IsErrOf result HttpFault.WireFault) }
 {
     let got = match take_into(wire, window, room, limit as usize) {

@@ -14,8 +14,8 @@ use crate::reading::read_line;
 use crate::window::Window;
 use sb_world::Wire;
 
-/// Reads one chunk behind `got` bytes of the body, and answers its size, or none for the last one, of which the size line
-/// alone is read.
+/// Reads one chunk behind `got` bytes of the body, and answers its size, or none for the last one, of which the size
+/// line alone is read.
 fn read_chunk<W: Wire>(
     wire: &mut W,
     window: &mut Window,
@@ -24,7 +24,8 @@ fn read_chunk<W: Wire>(
     room: &mut Vec<u8>,
 ) -> Result<Option<u64>, HttpFault>
     requires { got ≤ limit }
-    ensures told { ReadsChunk (W.connections wire.old) (W.connections wire.new) (pending window.old) (pending window.new) room.old.items room.new.items limit got result }
+    ensures told { ReadsChunk (W.connections wire.old) (W.connections wire.new) (pending window.old)
+        (pending window.new) room.old.items room.new.items limit got result }
     ensures cause { CountsFaults (W.faults wire.old) (W.faults wire.new) (IsErrOf result HttpFault.WireFault) }
 {
     let size = match read_line(wire, window, Line::Size, got) {
@@ -60,7 +61,8 @@ pub(crate) fn read_chunked<W: Wire>(
     limit: u64,
     room: &mut Vec<u8>,
 ) -> Result<u64, HttpFault>
-    ensures told { ReadsBody Framing.Chunked limit (W.connections wire.old) (W.connections wire.new) (pending window.old) room.old.items room.new.items result }
+    ensures told { ReadsBody Framing.Chunked limit (W.connections wire.old) (W.connections wire.new)
+        (pending window.old) room.old.items room.new.items result }
     ensures cause { CountsFaults (W.faults wire.old) (W.faults wire.new) (IsErrOf result HttpFault.WireFault) }
 {
     let mut got = 0;

@@ -12,9 +12,9 @@ use std::alloc::Global;
 
 /// Sends a request over a new connection, and reads its response, with the body behind the bytes of `room`.
 ///
-/// `bodiless` says that the request is one whose response has no body, as HEAD. `limit` is the most bytes of a body at a
-/// status of 200 to 299; at another status they are 65,536. What a response is, and which fault is told, docs/FORMATS.md
-/// says. After a fault `room` has its old bytes and a front of the body.
+/// `bodiless` says that the request is one whose response has no body, as HEAD. `limit` is the most bytes of a body at
+/// a status of 200 to 299; at another status they are 65,536. What a response is, and which fault is told,
+/// docs/FORMATS.md says. After a fault `room` has its old bytes and a front of the body.
 pub fn exchange<W: Wire>(
     alloc: Global,
     wire: &mut W,
@@ -24,7 +24,8 @@ pub fn exchange<W: Wire>(
     limit: u64,
     room: &mut Vec<u8>,
 ) -> Result<Response, HttpFault>
-    ensures told { Exchanges bodiless limit (W.connections wire.old) (W.connections wire.new) (head.now ++ body.now) room.old.items room.new.items result }
+    ensures told { Exchanges bodiless limit (W.connections wire.old) (W.connections wire.new)
+        (head.now ++ body.now) room.old.items room.new.items result }
     ensures cause { CountsFaults (W.faults wire.old) (W.faults wire.new) (IsErrOf result HttpFault.WireFault) }
 {
     match send_request(wire, head, body) {

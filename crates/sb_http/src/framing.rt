@@ -2,7 +2,22 @@
 
 ghost use Rattle.std.specs.Prelude.{◌≡◌};
 ghost use Rattle.std.specs.List.{list_any};
-ghost use Rattle.sb_http.specs.Fields.{IsFraming, IsRefused, TellsLength, differing, first_length, framing_by, gives, has_no_body, is_chunked, is_length, length_in, refused_length, unread, with_digit};
+ghost use Rattle.sb_http.specs.Fields.{
+  IsFraming,
+  IsRefused,
+  TellsLength,
+  differing,
+  first_length,
+  framing_by,
+  gives,
+  has_no_body,
+  is_chunked,
+  is_length,
+  length_in,
+  refused_length,
+  unread,
+  with_digit,
+};
 
 use crate::fault::HttpFault;
 use sb_base::Text;
@@ -24,7 +39,8 @@ pub(crate) enum Framing {
     ToEnd,
 }
 
-/// How the body of a response is delimited, with this status and these headers, to a request whose response has one or not.
+/// How the body of a response is delimited, with this status and these headers, to a request whose response has one or
+/// not.
 pub(crate) fn framing_of(
     alloc: Global,
     bodiless: bool,
@@ -58,7 +74,8 @@ fn any_chunked(headers: &[Pair]) -> bool
 
 /// How a body is delimited that isn't in chunks.
 fn framing_by_length(alloc: Global, headers: &[Pair]) -> Result<Framing, HttpFault>
-    ensures { IsRefused (refused_length headers.now) result (λ framing. framing ≡ framing_by (first_length headers.now)) }
+    ensures { IsRefused (refused_length headers.now) result (λ framing. framing ≡ framing_by
+        (first_length headers.now)) }
 {
     match refuse_unread(alloc, headers) {
         Ok(()) => {}

@@ -38,7 +38,8 @@ pub(crate) fn read_head<W: Wire>(
     window: &mut Window,
 ) -> Result<Head, HttpFault>
     requires { length (pending window.old) ≤ MAX_HEAD }
-    ensures told { ReadsHead (W.connections wire.old) (W.connections wire.new) (pending window.old) (pending window.new) result }
+    ensures told { ReadsHead (W.connections wire.old) (W.connections wire.new) (pending window.old)
+        (pending window.new) result }
     ensures cause { CountsFaults (W.faults wire.old) (W.faults wire.new) (IsErrOf result HttpFault.WireFault) }
 {
     for passed in 0..MAX_INTERIM + 1 {
@@ -58,7 +59,8 @@ fn take_head<W: Wire>(
     window: &mut Window,
 ) -> Result<Option<Head>, HttpFault>
     requires { length (pending window.old) ≤ MAX_HEAD }
-    ensures told { TakesHead (W.connections wire.old) (W.connections wire.new) (pending window.old) (pending window.new) result }
+    ensures told { TakesHead (W.connections wire.old) (W.connections wire.new) (pending window.old)
+        (pending window.new) result }
     ensures cause { CountsFaults (W.faults wire.old) (W.faults wire.new) (IsErrOf result HttpFault.WireFault) }
 {
     let mut spans = [EMPTY_HEADER_SPAN; MAX_HEADERS];
@@ -97,7 +99,8 @@ fn find_head<W: Wire>(
 ) -> Result<ResponseSpans, HttpFault>
     requires small { length (pending window.old) ≤ MAX_HEAD }
     requires room { length spans.old ≡ MAX_HEADERS }
-    ensures told { FindsHead (W.connections wire.old) (W.connections wire.new) (pending window.old) (pending window.new) spans.new result }
+    ensures told { FindsHead (W.connections wire.old) (W.connections wire.new) (pending window.old)
+        (pending window.new) spans.new result }
     ensures cause { CountsFaults (W.faults wire.old) (W.faults wire.new) (IsErrOf result HttpFault.WireFault) }
 {
     'arrivals: loop {

@@ -15,7 +15,8 @@ pub(crate) const PIECE: usize = 16_384;
 
 /// Takes one byte, or none at the end.
 pub(crate) fn take_byte<W: Wire>(wire: &mut W, window: &mut Window) -> Result<Option<u8>, HttpFault>
-    ensures told { TakesByte (W.connections wire.old) (W.connections wire.new) (pending window.old) (pending window.new) result }
+    ensures told { TakesByte (W.connections wire.old) (W.connections wire.new) (pending window.old)
+        (pending window.new) result }
     ensures cause { CountsFaults (W.faults wire.old) (W.faults wire.new) (IsErrOf result HttpFault.WireFault) }
 {
     match window.pop() {
@@ -30,15 +31,16 @@ pub(crate) fn take_byte<W: Wire>(wire: &mut W, window: &mut Window) -> Result<Op
     }
 }
 
-/// Takes so many bytes behind those of `room`, fewer only at the end, and answers how many. Those that the wire receives
-/// are written where they stay.
+/// Takes so many bytes behind those of `room`, fewer only at the end, and answers how many. Those that the wire
+/// receives are written where they stay.
 pub(crate) fn take_into<W: Wire>(
     wire: &mut W,
     window: &mut Window,
     room: &mut Vec<u8>,
     want: usize,
 ) -> Result<usize, HttpFault>
-    ensures told { TakesInto (W.connections wire.old) (W.connections wire.new) (pending window.old) (pending window.new) room.old.items room.new.items want result }
+    ensures told { TakesInto (W.connections wire.old) (W.connections wire.new) (pending window.old)
+        (pending window.new) room.old.items room.new.items want result }
     ensures cause { CountsFaults (W.faults wire.old) (W.faults wire.new) (IsErrOf result HttpFault.WireFault) }
 {
     let mut got = match window.pour(room, want) {
@@ -62,7 +64,8 @@ pub(crate) fn receive_more<W: Wire>(
     most: usize,
 ) -> Result<usize, HttpFault>
     requires { 0 < most }
-    ensures told { ReceivesInto (W.connections wire.old) (W.connections wire.new) (pending window.old) (pending window.new) most result }
+    ensures told { ReceivesInto (W.connections wire.old) (W.connections wire.new) (pending window.old)
+        (pending window.new) most result }
     ensures cause { CountsFaults (W.faults wire.old) (W.faults wire.new) (IsErrOf result HttpFault.WireFault) }
 {
     receive_into(wire, &mut window.bytes, most)

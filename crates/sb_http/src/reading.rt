@@ -21,7 +21,8 @@ pub(crate) fn read_line<W: Wire>(
     start: Line,
     got: u64,
 ) -> Result<u64, HttpFault>
-    ensures told { ReadsLine (W.connections wire.old) (W.connections wire.new) (pending window.old) (pending window.new) start got result }
+    ensures told { ReadsLine (W.connections wire.old) (W.connections wire.new) (pending window.old)
+        (pending window.new) start got result }
     ensures cause { CountsFaults (W.faults wire.old) (W.faults wire.new) (IsErrOf result HttpFault.WireFault) }
 {
     let mut line = start;

@@ -14,7 +14,8 @@ pub(crate) fn receive_into<W: Wire>(
     most: usize,
 ) -> Result<usize, HttpFault>
     requires { 0 < most }
-    ensures told { ReceivesInto (W.connections wire.old) (W.connections wire.new) out.old.items out.new.items most result }
+    ensures told { ReceivesInto (W.connections wire.old)
+        (W.connections wire.new) out.old.items out.new.items most result }
     ensures cause { CountsFaults (W.faults wire.old) (W.faults wire.new) (IsErrOf result HttpFault.WireFault) }
 {
     let old = out.len();

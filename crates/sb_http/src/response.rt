@@ -37,7 +37,8 @@ pub(crate) fn read_response<W: Wire>(
     room: &mut Vec<u8>,
 ) -> Result<Response, HttpFault>
     requires { length (pending window.old) ≤ MAX_HEAD }
-    ensures told { ReadsResponse bodiless limit (W.connections wire.old) (W.connections wire.new) (pending window.old) room.old.items room.new.items result }
+    ensures told { ReadsResponse bodiless limit (W.connections wire.old) (W.connections wire.new)
+        (pending window.old) room.old.items room.new.items result }
     ensures cause { CountsFaults (W.faults wire.old) (W.faults wire.new) (IsErrOf result HttpFault.WireFault) }
 {
     let head = match read_head(alloc, wire, window) {

@@ -5,7 +5,8 @@ use Rattle.std.proofs.lemmas.List.{take_at, drop_at, append_cancel_left}
 use Rattle.std.proofs.lemmas.Nat.{from_be_bytes-to_be_bytes_2, from_be_bytes-to_be_bytes_4, from_be_bytes-to_be_bytes_8}
 use Rattle.sb_nbd.specs.declared.wanted.Wanted.{Wanted}
 use Rattle.sb_nbd.specs.declared.option.Asked.{Asked}
-use Rattle.sb_nbd.specs.Requests.{magic_bytes, fields_bytes, payload_length, Request, IsRequest, FitsFields, request_bytes}
+use Rattle.sb_nbd.specs.Requests.{magic_bytes, fields_bytes, payload_length, Request, IsRequest, FitsFields}
+use Rattle.sb_nbd.specs.Requests.{request_bytes}
 use Rattle.sb_nbd.specs.Options as options
 
 -- two lists with fronts of one length

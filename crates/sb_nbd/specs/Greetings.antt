@@ -1,5 +1,6 @@
 -- The handshake's other messages as bytes (NBD protocol, "Newstyle negotiation").
-use Rattle.std.specs.Prelude.{ℕ, ◌≡◌, ◌≤◌, ◌<◌, ◌^◌, List, [], ◌∷◌, ◌++◌, length, Bool, if◌then◌else◌, replicate, Option, Result, Ok, Err}
+use Rattle.std.specs.Prelude.{ℕ, ◌≡◌, ◌≤◌, ◌<◌, ◌^◌, List, [], ◌∷◌, ◌++◌, length, Bool, if◌then◌else◌, replicate}
+use Rattle.std.specs.Prelude.{Option, Result, Ok, Err}
 use Rattle.std.specs.Int.{w16, w32, w64, to_be_bytes}
 use Rattle.sb_world.specs.Streams.{Takes, IsAtEnd}
 use Rattle.sb_nbd.specs.declared.end.NbdEnd.{NbdEnd}

@@ -8,7 +8,8 @@ use Rattle.sb_nbd.specs.declared.request.TheConstants.{REQUEST_MAGIC, MAX_PAYLOA
 use Rattle.sb_nbd.specs.declared.end.NbdEnd.{NbdEnd}
 use Rattle.sb_nbd.specs.declared.end.NbdEnd.TheVariants.{Ended, Cut, BadMagic, BadFlags, TooBig, ReadFault, WriteFault}
 use Rattle.sb_nbd.specs.Pieces.{IsShort}
-use Rattle.sb_nbd.specs.Requests.{magic_bytes, fields_bytes, Request, FitsFields, payload_length, IsRequest, request_bytes}
+use Rattle.sb_nbd.specs.Requests.{magic_bytes, fields_bytes, Request, FitsFields, payload_length, IsRequest}
+use Rattle.sb_nbd.specs.Requests.{request_bytes}
 
 -- bytes that begin a request and are no whole one: too few for the magic, for the fields, or for the payload
 abbrev pub IsCutRequest : List ℕ → Type 0

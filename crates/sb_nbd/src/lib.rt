@@ -1,7 +1,7 @@
 //! The messages of NBD, read from a source and written to a sink.
 //!
-//! Numbers are big-endian. Each reader takes the bytes of exactly one message, however they come in pieces, and tells a wrong
-//! magic as soon as the magic's own bytes have come.
+//! Numbers are big-endian. Each reader takes the bytes of exactly one message, however they come in pieces, and tells a
+//! wrong magic as soon as the magic's own bytes have come.
 #![tactic(auto)]
 
 mod end;

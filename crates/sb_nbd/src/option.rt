@@ -33,8 +33,8 @@ pub struct Asked {
     pub length: u32,
 }
 
-/// Reads one option, with its bytes at the front of a buffer. One longer than `MAX_OPTION` is `TooBig` before its bytes are
-/// taken.
+/// Reads one option, with its bytes at the front of a buffer. One longer than `MAX_OPTION` is `TooBig` before its bytes
+/// are taken.
 pub fn read_option<R: Source>(source: &mut R, room: &mut [u8]) -> Result<Asked, NbdEnd>
     requires { MAX_OPTION ≤ length room.old }
     ensures length { length room.new ≡ length room.old }
