@@ -1,6 +1,6 @@
 //! Writes and flushes of the program in a world in memory, and of its disk.
 
-ghost use Rattle.std.specs.Prelude.{◌≢◌, ◌<◌, None};
+ghost use Rattle.std.specs.Prelude.{◌≡◌, ◌≢◌, ◌≤◌, ◌<◌, None, vec_len};
 
 use crate::settings::SETTINGS;
 use crate::tests::{DISC, HANDSHAKE, OPENING, errors, joined, output, session, session_over};
@@ -258,13 +258,42 @@ impl Numbers {
     }
 }
 
+/// An array of bytes, of the size of the disk.
+#[derive(Drop)]
+struct Array {
+    bytes: Vec<u8>,
+    ghost sized: { vec_len bytes ≡ 65536 },
+}
+
+impl Array {
+    fn new(alloc: Global) -> Result<Array, AllocError> {
+        let mut bytes = Vec::new(alloc);
+        bytes.resize(65_536, 0)?;
+        Ok(Array { bytes })
+    }
+
+    /// The bytes from one place to another.
+    fn part(&self, begin: usize, end: usize) -> &[u8]
+        requires { (begin ≤ end) × (end ≤ 65536) }
+    {
+        &self.bytes[begin..end]
+    }
+
+    /// Fills them with one byte.
+    fn fill(&mut self, begin: usize, end: usize, byte: u8)
+        requires { (begin ≤ end) × (end ≤ 65536) }
+    {
+        self.bytes[begin..end].fill(byte);
+    }
+}
+
 #[test]
 fn random_requests_get_the_replies_of_an_array(rt: HostRuntime) -> Result<(), Fail> {
     let alloc = rt.alloc();
     let mut numbers = Numbers {
         state: 88_172_645_463_325_252,
     };
-    let mut disk = [0; 65_536];
+    let mut disk = Array::new(alloc)?;
     let mut asked = Vec::new(alloc);
     let mut wanted = Vec::new(alloc);
     wanted.extend_from_slice(HANDSHAKE)?;
@@ -276,15 +305,15 @@ fn random_requests_get_the_replies_of_an_array(rt: HostRuntime) -> Result<(), Fa
         match numbers.below(9) {
             0..=3 => {
                 let fill = numbers.below(3) as u8;
-                disk[begin..end].fill(fill);
+                disk.fill(begin, end, fill);
                 asked.extend_from_slice(&request(alloc, WRITE, cookie, offset, length as u32)?)?;
-                asked.extend_from_slice(&disk[begin..end])?;
+                asked.extend_from_slice(disk.part(begin, end))?;
                 wanted.extend_from_slice(&reply(alloc, 0, cookie)?)?;
             }
             4..=7 => {
                 asked.extend_from_slice(&request(alloc, READ, cookie, offset, length as u32)?)?;
                 wanted.extend_from_slice(&reply(alloc, 0, cookie)?)?;
-                wanted.extend_from_slice(&disk[begin..end])?;
+                wanted.extend_from_slice(disk.part(begin, end))?;
             }
             _ => {
                 asked.extend_from_slice(&request(alloc, FLUSH, cookie, offset, 0)?)?;
