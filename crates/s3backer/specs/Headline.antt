@@ -88,7 +88,8 @@ abbrev pub ComplainsOf : Option (List ℕ) → Option (List ℕ) → Option (Lis
 ComplainsOf None held held' faults faults' = held' ≡ held
 ComplainsOf (Some line) held held' faults faults' = Complains held held' faults faults' line
 
--- a disk's history: what its tape, the link's log and the clock gained, the rules that it follows, and, over every store
+-- a disk's history: what its tape, the link's log and the clock gained, the rules that it follows, and, over every
+-- store
 -- that shows the latest versions, that each read is that of a register, that each flush that is done has saved what was
 -- written before it, and what a crash leaves at any moment
 pub record IsHistory (geometry : Geometry) (told told' : Option (List Entry)) (log log' : Option (List Call))
@@ -120,7 +121,8 @@ NoneFailed (inr served) = AllByRecursion (λ x. x.error ≢ EIO) served.transcri
 module _ {L C R S : Type 0} (log : L → Option (List Call)) (link_faults : L → ℕ) (ticks : C
     → Option (List Tick)) (left : R → Option (List ℕ))
     (read_faults : R → ℕ) (held : S → Option (List ℕ)) (write_faults : S → ℕ) where
-  -- a session was served and the disk flushed then: the history of both, the session's course over the bytes, how it and
+  -- a session was served and the disk flushed then: the history of both, the session's course over the bytes, how it
+  -- and
   -- the flush ended, and what was told of that
   pub record ServesSession (geometry : Geometry) (link link' : L) (clock clock' : C) (input input' : R)
       (output output' errors errors' : S) (told told' : Option (List Entry)) (status : ℕ) : Type 0 where

@@ -1,5 +1,6 @@
 -- The parts of a range of bytes of a disk.
-use Rattle.std.specs.Prelude.{ℕ, zero, suc, ◌<◌, ◌≤◌, ◌+◌, ◌-◌, ◌*◌, ◌/◌, ◌^◌, min, max, nat_lt, if◌then◌else◌, List, [], ◌∷◌}
+use Rattle.std.specs.Prelude.{ℕ, zero, suc, ◌<◌, ◌≤◌, ◌+◌, ◌-◌, ◌*◌, ◌/◌, ◌^◌, min, max, nat_lt, if◌then◌else◌, List}
+use Rattle.std.specs.Prelude.{[], ◌∷◌}
 use Rattle.sb_base.specs.declared.geometry.Geometry.{Geometry}
 use Rattle.sb_base.specs.declared.part.Part.{Part}
 
@@ -36,7 +37,8 @@ parts_in size from to block (suc n) = part_in size from to block ∷ parts_in si
 
 -- the parts of a range, one for each block of this size that it meets, in rising order
 abbrev pub parts_of : ℕ → ℕ → ℕ → List Part
-parts_of size from to = if nat_lt from to then parts_in size from to (from / size) ((to - 1) / size + 1 - from / size) else []
+parts_of size from to = if nat_lt from to then parts_in size from to (from / size)
+    ((to - 1) / size + 1 - from / size) else []
 
 -- what is left of a range: each of its blocks has a number and a length of 32 bits
 pub record IsRest (size at end : ℕ) : Type 0 where

@@ -1,9 +1,13 @@
 -- Which settings a disk may have.
-use Rattle.std.specs.Prelude.{ℕ, ◌≡◌, ◌≢◌, ◌<◌, ◌≤◌, Bool, ◌||◌, ◌&&◌, not, nat_eq, nat_lt, if◌then◌else◌, Option, Some, None, IfSome, Result, Ok, Err}
+use Rattle.std.specs.Prelude.{ℕ, ◌≡◌, ◌≢◌, ◌<◌, ◌≤◌, Bool, ◌||◌, ◌&&◌, not, nat_eq, nat_lt, if◌then◌else◌, Option, Some}
+use Rattle.std.specs.Prelude.{None, IfSome, Result, Ok, Err}
 use Rattle.sb_base.specs.declared.settings.Settings.{Settings}
 use Rattle.sb_base.specs.declared.settings.SettingsFault.{SettingsFault}
-use Rattle.sb_base.specs.declared.settings.SettingsFault.TheVariants.{TimesWithoutWindow, WindowSize, WindowShort, WindowSmall, CacheSize, MaxDirty, StaleLimit, ReadAhead, Threads, Clients}
-use Rattle.sb_base.specs.declared.settings.TheConstants.{MAX_MD5_SIZE, MAX_CACHE_SIZE, MAX_STALE_LIMIT, MAX_READ_AHEAD, MAX_THREADS, MAX_CLIENTS}
+use Rattle.sb_base.specs.declared.settings.SettingsFault.TheVariants.{TimesWithoutWindow, WindowSize, WindowShort}
+use Rattle.sb_base.specs.declared.settings.SettingsFault.TheVariants.{WindowSmall, CacheSize, MaxDirty, StaleLimit}
+use Rattle.sb_base.specs.declared.settings.SettingsFault.TheVariants.{ReadAhead, Threads, Clients}
+use Rattle.sb_base.specs.declared.settings.TheConstants.{MAX_MD5_SIZE, MAX_CACHE_SIZE, MAX_STALE_LIMIT, MAX_READ_AHEAD}
+use Rattle.sb_base.specs.declared.settings.TheConstants.{MAX_THREADS, MAX_CLIENTS}
 
 -- settings for a disk of so many blocks, where they are known
 pub record IsChecked (settings : Settings) (blocks : Option ℕ) : Type 0 where

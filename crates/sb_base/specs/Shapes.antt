@@ -3,7 +3,8 @@ use Rattle.std.specs.Prelude.{ℕ, ◌<◌, ◌≤◌, ◌/◌, ◌%◌, ◌||�
 use Rattle.std.specs.Int.{is_power_of_two}
 use Rattle.sb_base.specs.declared.geometry.Geometry.{Geometry}
 use Rattle.sb_base.specs.declared.geometry.GeometryFault.{GeometryFault}
-use Rattle.sb_base.specs.declared.geometry.GeometryFault.TheVariants.{BlockOutOfRange, NotPowerOfTwo, Empty, NotMultiple, TooMany}
+use Rattle.sb_base.specs.declared.geometry.GeometryFault.TheVariants.{BlockOutOfRange, NotPowerOfTwo, Empty}
+use Rattle.sb_base.specs.declared.geometry.GeometryFault.TheVariants.{NotMultiple, TooMany}
 use Rattle.sb_base.specs.declared.geometry.TheConstants.{MIN_BLOCK_SIZE, MAX_BLOCK_SIZE, MAX_BLOCKS}
 
 -- the geometry of a disk of so many bytes in blocks of so many, or the first fault

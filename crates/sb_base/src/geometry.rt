@@ -37,8 +37,8 @@ pub enum GeometryFault {
 }
 
 impl Geometry {
-    /// The geometry of a disk of `size` bytes. The first fault in the order of `GeometryFault` is told: a block size that
-    /// no disk has comes before a size that doesn't go with it.
+    /// The geometry of a disk of `size` bytes. The first fault in the order of `GeometryFault` is told: a block size
+    /// that no disk has comes before a size that doesn't go with it.
     pub fn make(size: u64, block_size: u32) -> Result<Geometry, GeometryFault>
         ensures made { result ≡ geometry_of size block_size }
         ensures sound { IfOk result IsSound }

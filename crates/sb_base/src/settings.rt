@@ -48,8 +48,8 @@ pub enum SettingsFault {
     Clients(u32),
 }
 
-/// The settings of a disk. Delays, times and the limit are milliseconds, sizes and counts are blocks, but for `md5_size`,
-/// the entries of the MD5 window, and `threads` and `clients`.
+/// The settings of a disk. Delays, times and the limit are milliseconds, sizes and counts are blocks, but for
+/// `md5_size`, the entries of the MD5 window, and `threads` and `clients`.
 #[derive(Drop, Clone, Copy, PartialEq, Eq, Debug)]
 pub struct Settings {
     /// How long after the end of a put of a block its next put may begin.
@@ -79,8 +79,8 @@ pub struct Settings {
 }
 
 impl Settings {
-    /// Checks that a disk can have the settings, where its number of blocks may be unknown. The first fault in the order
-    /// of `SettingsFault` is told. It takes no memory.
+    /// Checks that a disk can have the settings, where its number of blocks may be unknown. The first fault in the
+    /// order of `SettingsFault` is told. It takes no memory.
     pub fn check(&self, blocks: Option<u32>) -> Result<(), SettingsFault>
         ensures answer { result ≡ check_of self.now blocks }
         ensures sound { IfOk result (λ _. IsChecked self.now blocks) }

@@ -21,8 +21,9 @@ pub enum SizeFault {
 
 /// Reads a size: one or more digits, and at most one of `k`, `m`, `g` and `t` in either case for a power of 1,024.
 ///
-/// `NoDigits` comes where the text doesn't begin with a digit, `BadCharacter` with the place of the first byte that such a
-/// text doesn't have, and `Overflow` where a text of this form stands for more than 2^64 - 1. It takes no memory.
+/// `NoDigits` comes where the text doesn't begin with a digit, `BadCharacter` with the place of the first byte that
+/// such a text doesn't have, and `Overflow` where a text of this form stands for more than 2^64 - 1. It takes no
+/// memory.
 pub fn read_size(text: &str) -> Result<u64, SizeFault>
     ensures { result ≡ size_of text.now }
 {

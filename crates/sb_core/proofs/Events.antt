@@ -1,5 +1,7 @@
--- A core that represents a history represents it with one entry more, event by event: reads, GETs, drops, begins of PUTs.
-use Rattle.std.proofs.Common.{ℕ, ◌≡◌, ◌<◌, ◌≤◌, Bool, true, false, nat_eq, nat_le, if◌then◌else◌, List, [], ◌∷◌, length, filter, Option, Some, None, refl, sym, ◌∙◌, ap, subst, inl, inr, ◌⊎◌}
+-- A core that represents a history represents it with one entry more, event by event: reads, GETs, drops, begins of
+-- PUTs.
+use Rattle.std.proofs.Common.{ℕ, ◌≡◌, ◌<◌, ◌≤◌, Bool, true, false, nat_eq, nat_le, if◌then◌else◌, List, [], ◌∷◌, length}
+use Rattle.std.proofs.Common.{filter, Option, Some, None, refl, sym, ◌∙◌, ap, subst, inl, inr, ◌⊎◌}
 use Rattle.md5.specs.Md5.{md5}
 use Rattle.sb_base.specs.declared.geometry.Geometry.{Geometry}
 use Rattle.sb_base.specs.declared.settings.Settings.{Settings}
@@ -20,9 +22,12 @@ use Rattle.sb_history.specs.AccessRules.{MayTake}
 use Rattle.sb_history.specs.CachePolicy.{IsAged, IsFlushed, HasNoVictim, IsTooDirty}
 use Rattle.sb_core.specs.declared.state.State.{State}
 use Rattle.sb_core.specs.declared.state.State.TheVariants.{Missing, Reading, Clean, Dirty, Writing}
-use Rattle.sb_core.specs.Represents.{nothing_found, only_at, content_in, OpenGet, get_in, open_get, open_put, writes_since, IsStampOf, RepresentsBy}
+use Rattle.sb_core.specs.Represents.{nothing_found, only_at, content_in, OpenGet, get_in, open_get, open_put}
+use Rattle.sb_core.specs.Represents.{writes_since, IsStampOf, RepresentsBy}
 use Rattle.sb_core.proofs.Histories.{none_known_zero, unacked_below, none_since, newest_within}
-use Rattle.sb_core.proofs.Fields.{same, get_closed, ends_fetch, put_closed, spaced, expected_off, fits_cache, victim_clean, victim_none, full_cache, no_stamp, kept_stamp, since_closed, get_is_reading}
+use Rattle.sb_core.proofs.Fields.{same, get_closed, ends_fetch, put_closed, spaced, expected_off, fits_cache}
+use Rattle.sb_core.proofs.Fields.{victim_clean, victim_none, full_cache, no_stamp, kept_stamp, since_closed}
+use Rattle.sb_core.proofs.Fields.{get_is_reading}
 
 -- an entry of a pass at a reading
 abbrev pub at : ℕ → ℕ → EntryKind → Entry
@@ -170,7 +175,11 @@ get_ends geometry settings reading epoch now body content past pass begun block 
         (rw s.last at later),
         s.rules,
       );
-      policy = (tt, fits_cache geometry settings (Clean block) content (entry ∷ past) s.base s.on_disk contents gets, s.policy);
+      policy = (
+        tt,
+        fits_cache geometry settings (Clean block) content (entry ∷ past) s.base s.on_disk contents gets,
+        s.policy,
+      );
     }
 
 untaken : {X : Type 0} (t : Bool) (x y : X) (before : X) → before ≡ y
@@ -238,7 +247,8 @@ drops geometry settings reading epoch now body past pass block later s =
         record {
           is_victim = victim_clean geometry block body past s.on_disk s.contents (λ b. (s.stamps b).some) s.puts;
           due = inl
-              (full_cache geometry settings (Clean block) block body past s.base s.on_disk (λ b. refl) s.contents s.gets);
+              (full_cache geometry settings (Clean block) block body past s.base s.on_disk
+              (λ b. refl) s.contents s.gets);
         },
         fits_cache geometry settings Missing body (entry ∷ past) s.base tt contents s.gets,
         s.policy,
@@ -273,7 +283,12 @@ pub no_victim : (geometry : Geometry) (settings : Settings) (reading epoch : ℕ
     (block stamp : ℕ) → RepresentsBy geometry settings reading epoch (Dirty block stamp) body past → IsDue geometry
     settings past block
 no_victim geometry settings reading epoch body past block stamp s =
-    inr (full_cache geometry settings (Dirty block stamp) block body past s.base s.on_disk (λ b. refl) s.contents s.gets, victim_none geometry block stamp body past s.contents (λ b. (s.stamps b).some) s.puts)
+    inr (
+      full_cache geometry settings (Dirty block stamp) block body past s.base s.on_disk
+          (λ b. refl) s.contents s.gets,
+      victim_none geometry block stamp body past s.contents
+          (λ b. (s.stamps b).some) s.puts,
+    )
 
 pub put_begins : (geometry : Geometry) (settings : Settings) (reading epoch now : ℕ) (body : List ℕ) (past : List Entry)
     (pass block stamp : ℕ) → reading ≤ now → IsDue geometry settings past block → RepresentsBy geometry settings
@@ -296,7 +311,9 @@ put_begins geometry settings reading epoch now body past pass block stamp later 
       stamps = λ b. kept_stamp entry past _ _ refl (λ m. refl) (s.stamps b);
       later = λ b.
           subst (λ writes. IsStampOf (entry ∷ past) writes None)
-          (sym (since_begun (nat_eq block b) put (puts_of past b) (unacked_writes geometry.block_size nothing_found past b) refl (none_since (length past) _ (unacked_below geometry.block_size nothing_found past b)) (s.puts b)))
+          (sym (since_begun (nat_eq block b) put (puts_of past b)
+          (unacked_writes geometry.block_size nothing_found past b) refl
+          (none_since (length past) _ (unacked_below geometry.block_size nothing_found past b)) (s.puts b)))
           (no_stamp (entry ∷ past));
       rules = (
         record {
@@ -332,7 +349,8 @@ pub get_taken :
     (Clean block) content (at get.pass now (kind.GetEnd block answer get.verify true) ∷ past)
 get_taken geometry settings reading epoch now state body content past block get answer later has sized is s =
     let open_in = get_is_reading state block get has in
-    rw open_in.1 (get_ends geometry settings reading epoch now body content past get.pass get.begun block answer later sized is (rw open_in.0 at s))
+    rw open_in.1 (get_ends geometry settings reading epoch now body content past get.pass get.begun block answer later
+    sized is (rw open_in.0 at s))
 
 pub get_failed : (geometry : Geometry) (settings : Settings) (reading epoch now : ℕ) (state : State) (body : List ℕ)
     (past : List Entry) (block : ℕ) (get : OpenGet) (answer : Shown) → reading ≤ now → get_in state block ≡ Some get
@@ -340,4 +358,5 @@ pub get_failed : (geometry : Geometry) (settings : Settings) (reading epoch now 
     body (at get.pass now (kind.GetEnd block answer get.verify false) ∷ past)
 get_failed geometry settings reading epoch now state body past block get answer later has s =
     let open_in = get_is_reading state block get has in
-    rw open_in.1 (get_fails geometry settings reading epoch now body past get.pass get.begun block answer later (rw open_in.0 at s))
+    rw open_in.1 (get_fails geometry settings reading epoch now body past get.pass get.begun block answer later
+    (rw open_in.0 at s))

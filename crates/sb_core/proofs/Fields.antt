@@ -1,5 +1,7 @@
 -- What the fields of a core say of a history that it represents.
-use Rattle.std.proofs.Common.{ℕ, ◌≡◌, ◌<◌, ◌≤◌, Bool, true, false, not, ◌&&◌, ◌||◌, nat_eq, nat_le, if◌then◌else◌, min, List, [], ◌∷◌, filter, Option, Some, None, IfSome, is_some, is_none, refl, sym, ◌∙◌, ap, subst, arith}
+use Rattle.std.proofs.Common.{ℕ, ◌≡◌, ◌<◌, ◌≤◌, Bool, true, false, not, ◌&&◌, ◌||◌, nat_eq, nat_le, if◌then◌else◌, min}
+use Rattle.std.proofs.Common.{List, [], ◌∷◌, filter, Option, Some, None, IfSome, is_some, is_none, refl, sym, ◌∙◌, ap}
+use Rattle.std.proofs.Common.{subst, arith}
 use Rattle.std.proofs.lemmas.Bool.{eqb-true, eq-eqb}
 use Rattle.sb_base.specs.declared.geometry.Geometry.{Geometry}
 use Rattle.sb_base.specs.declared.settings.Settings.{Settings}
@@ -17,8 +19,10 @@ use Rattle.sb_history.specs.AccessRules.{EndsPut, EndsFetch, MayTake}
 use Rattle.sb_history.specs.CachePolicy.{FitsCache}
 use Rattle.sb_core.specs.declared.state.State.{State}
 use Rattle.sb_core.specs.declared.state.State.TheVariants.{Missing, Reading, Clean, Dirty, Writing, Writing2}
-use Rattle.sb_core.specs.Represents.{nothing_found, HasOneBlock, only_at, content_in, OpenGet, get_in, open_get, open_put, writes_since, IsStampOf, IsOnDisk}
-use Rattle.sb_core.proofs.Histories.{none_unverified, EndedBy, NewestWithin, count_none, count_one, lowest_none, lightest_none, lightest_one}
+use Rattle.sb_core.specs.Represents.{nothing_found, HasOneBlock, only_at, content_in, OpenGet, get_in, open_get}
+use Rattle.sb_core.specs.Represents.{open_put, writes_since, IsStampOf, IsOnDisk}
+use Rattle.sb_core.proofs.Histories.{none_unverified, EndedBy, NewestWithin, count_none, count_one, lowest_none}
+use Rattle.sb_core.proofs.Histories.{lightest_none, lightest_one}
 
 pub same : (block : ℕ) → nat_eq block block ≡ true
 same block = eq-eqb block block refl
@@ -45,8 +49,11 @@ ends_fetch block_size (Some fetch) pass begun answer taken is takes =
     let shown : OpenGet = record
     { pass = fetch.pass; begun = fetch.reading; expect = fetch.expect; verify = fetch.verify } in
     let given : OpenGet = record { pass = pass; begun = begun; expect = None; verify = None } in
-    let one : shown ≡ given = cc in
-    (sym (ap (λ (get : OpenGet). get.verify) one), sym (ap (λ (get : OpenGet). get.pass) one), takes fetch.expect (ap (λ (get : OpenGet). get.expect) one))
+    let one : shown ≡ given = cc in (
+      sym (ap (λ (get : OpenGet). get.verify) one),
+      sym (ap (λ (get : OpenGet). get.pass) one),
+      takes fetch.expect (ap (λ (get : OpenGet). get.expect) one),
+    )
 
 -- PUTs
 some_put : (puts : List Put) → newest_is_open puts ≡ is_some (open_put puts)
@@ -136,7 +143,8 @@ pub fits_cache : (geometry : Geometry) (settings : Settings) (state : State) (bo
     → ((block : ℕ) → open_get (fetch_of past block) ≡ get_in state block)
     → FitsCache geometry settings nothing_found past
 fits_cache geometry settings state body past base on contents gets =
-    rw base.cache_size (fits_in geometry.blocks (is_occupied geometry.block_size nothing_found past) state on (λ block. occupied_is geometry.block_size state body past block (contents block) (gets block)))
+    rw base.cache_size (fits_in geometry.blocks (is_occupied geometry.block_size nothing_found past) state on
+    (λ block. occupied_is geometry.block_size state body past block (contents block) (gets block)))
 
 -- the victim
 waits_none : (past : List Entry) (block : ℕ) → waits_unverified nothing_found past block ≡ false
@@ -168,16 +176,19 @@ pub victim_clean : (geometry : Geometry) (held : ℕ) (body : List ℕ) (past : 
 victim_clean geometry held body past on contents owes puts =
     rw (lowest_none (waits_unverified nothing_found past) (waits_none past) geometry.blocks)
     (lightest_one (is_clean geometry.block_size nothing_found past) (λ block. (last_use past block).place) held
-    (λ block. clean_is geometry.block_size None None (only_at held body block) past block (contents block) (owes block) (puts block) ∙ clean_held (nat_eq held block) body) geometry.blocks on)
+    (λ block. clean_is geometry.block_size None None (only_at held body block) past block (contents block)
+    (owes block) (puts block) ∙ clean_held (nat_eq held block) body) geometry.blocks on)
 
 pub victim_none : (geometry : Geometry) (held stamp : ℕ) (body : List ℕ) (past : List Entry)
     → ((block : ℕ) → cached_content geometry.block_size nothing_found past block ≡ only_at held body block)
-    → ((block : ℕ) → is_nil (unacked_writes geometry.block_size nothing_found past block) ≡ is_none (only_at held stamp block)) → ((block : ℕ) → open_put (puts_of past block) ≡ None)
+    → ((block : ℕ) → is_nil (unacked_writes geometry.block_size nothing_found past block) ≡ is_none
+    (only_at held stamp block)) → ((block : ℕ) → open_put (puts_of past block) ≡ None)
     → victim_of geometry.block_size geometry.blocks nothing_found past ≡ None
 victim_none geometry held stamp body past contents owes puts =
     rw (lowest_none (waits_unverified nothing_found past) (waits_none past) geometry.blocks)
     (lightest_none (is_clean geometry.block_size nothing_found past) (λ block. (last_use past block).place)
-    (λ block. clean_is geometry.block_size None (only_at held stamp block) (only_at held body block) past block (contents block) (owes block) (puts block) ∙ owing_held (nat_eq held block) false body stamp) geometry.blocks)
+    (λ block. clean_is geometry.block_size None (only_at held stamp block) (only_at held body block) past block
+    (contents block) (owes block) (puts block) ∙ owing_held (nat_eq held block) false body stamp) geometry.blocks)
 
 -- the entry is taken
 pub full_cache :

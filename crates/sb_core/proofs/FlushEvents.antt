@@ -1,5 +1,6 @@
 -- A core that represents a history represents it with one entry more, event by event: flushes.
-use Rattle.std.proofs.Common.{ℕ, suc, ◌≡◌, ◌<◌, ◌≤◌, Bool, true, false, nat_eq, if◌then◌else◌, min, List, ◌∷◌, length, Option, Some, None, IsSome, is_some, refl, ◌∙◌, ap, subst, inl, arith}
+use Rattle.std.proofs.Common.{ℕ, suc, ◌≡◌, ◌<◌, ◌≤◌, Bool, true, false, nat_eq, if◌then◌else◌, min, List, ◌∷◌, length}
+use Rattle.std.proofs.Common.{Option, Some, None, IsSome, is_some, refl, ◌∙◌, ap, subst, inl, arith}
 use Rattle.sb_base.specs.declared.geometry.Geometry.{Geometry}
 use Rattle.sb_base.specs.declared.settings.Settings.{Settings}
 use Rattle.sb_base.specs.declared.entry.EntryKind.TheVariants as kind
@@ -36,7 +37,8 @@ flush_begins geometry settings reading epoch next now state body past pass later
       stamps = λ b. flush_stamp pass now epoch past (writes b) (stamp_in state b)
           (unacked_below geometry.block_size nothing_found past b) s.epochs (s.stamps b);
       later = λ b. flush_stamp pass now epoch past (writes_since (puts_of past b) (writes b)) (later_in state b)
-          (since_below (length past) (puts_of past b) (writes b) (unacked_below geometry.block_size nothing_found past b))
+          (since_below (length past) (puts_of past b) (writes b)
+          (unacked_below geometry.block_size nothing_found past b))
           s.epochs (s.later b);
       rules = (s.epochs, (rw s.last at later), s.rules);
       policy =
@@ -70,7 +72,12 @@ flush_ends geometry settings reading epoch now state body past pass mark later b
       puts = s.puts;
       stamps = λ b. kept_stamp entry past _ _ refl (λ m. refl) (s.stamps b);
       later = λ b. kept_stamp entry past _ _ refl (λ m. refl) (s.later b);
-      rules = (none_stamped geometry.block_size past (stamp_in state) mark (flush_place past mark) refl began s.stamps covers, (rw s.last at later), s.rules);
+      rules = (
+        none_stamped geometry.block_size past (stamp_in state) mark
+            (flush_place past mark) refl began s.stamps covers,
+        (rw s.last at later),
+        s.rules,
+      );
       policy =
           (tt, fits_cache geometry settings state body (entry ∷ past) s.base s.on_disk s.contents s.gets, s.policy);
     }
@@ -88,7 +95,11 @@ pub flush_due : (geometry : Geometry) (settings : Settings) (reading epoch : ℕ
 flush_due geometry settings reading epoch body past block stamp mark began covers s =
     let here = subst (λ (o : Option ℕ). IsStampOf past (unacked_writes geometry.block_size nothing_found past block) o)
     (ap (λ t. if t then Some stamp else None) (same block)) (s.stamps block) in
-    inl (mark, stamped_by past (unacked_writes geometry.block_size nothing_found past block) stamp mark (flush_place past mark) refl began covers here)
+    inl (
+      mark,
+      stamped_by past (unacked_writes geometry.block_size nothing_found past block) stamp mark
+          (flush_place past mark) refl began covers here,
+    )
 
 covers_at : (t : Bool) (stamp mark : ℕ) → mark < stamp → is_above (if t then Some stamp else None) mark ≡ true
 covers_at true stamp mark lt = below mark stamp lt

@@ -1,5 +1,6 @@
 -- A core that represents a history represents it with one entry more, event by event: ends of PUTs.
-use Rattle.std.proofs.Common.{ℕ, ◌≡◌, ◌≤◌, Bool, true, false, nat_eq, nat_le, if◌then◌else◌, List, ◌∷◌, length, filter, Option, Some, None, refl, sym, ◌∙◌, ap, subst}
+use Rattle.std.proofs.Common.{ℕ, ◌≡◌, ◌≤◌, Bool, true, false, nat_eq, nat_le, if◌then◌else◌, List, ◌∷◌, length, filter}
+use Rattle.std.proofs.Common.{Option, Some, None, refl, sym, ◌∙◌, ap, subst}
 use Rattle.std.proofs.lemmas.Bool.{eqb-true}
 use Rattle.sb_base.specs.declared.geometry.Geometry.{Geometry}
 use Rattle.sb_base.specs.declared.settings.Settings.{Settings}
@@ -13,7 +14,8 @@ use Rattle.sb_history.specs.Writes.{unacked_writes}
 use Rattle.sb_core.specs.declared.state.State.{State}
 use Rattle.sb_core.specs.declared.state.State.TheVariants.{Missing, Reading, Clean, Dirty, Writing, Writing2}
 use Rattle.sb_core.specs.Moves.{state_put_ended}
-use Rattle.sb_core.specs.Represents.{nothing_found, only_at, content_in, get_in, open_get, put_in, open_put, stamp_in, later_in, writes_since, IsStampOf, IsOnDisk, RepresentsBy}
+use Rattle.sb_core.specs.Represents.{nothing_found, only_at, content_in, get_in, open_get, put_in, open_put, stamp_in}
+use Rattle.sb_core.specs.Represents.{later_in, writes_since, IsStampOf, IsOnDisk, RepresentsBy}
 use Rattle.sb_core.proofs.Fields.{same, ends_put, fits_cache, no_stamp, kept_stamp, since_closed, since_open}
 use Rattle.sb_core.proofs.Events.{at}
 use Rattle.sb_core.proofs.Stamps.{ended_closed}
@@ -54,7 +56,8 @@ ends_as : (geometry : Geometry) (settings : Settings) (reading epoch now : ℕ) 
     → ((b : ℕ) → content_in before body b ≡ content_in after body b) → ((b : ℕ) → get_in before b ≡ get_in after b)
     → ((b : ℕ) → put_in before b ≡ only_at block pass b) → ((b : ℕ) → put_in after b ≡ None)
     → ((b : ℕ) → later_in after b ≡ None)
-    → ((b : ℕ) → IsStampOf (at pass now (kind.PutEnd block ok) ∷ past) (unacked_writes geometry.block_size nothing_found (at pass now (kind.PutEnd block ok) ∷ past) b) (stamp_in after b))
+    → ((b : ℕ) → IsStampOf (at pass now (kind.PutEnd block ok) ∷ past)
+    (unacked_writes geometry.block_size nothing_found (at pass now (kind.PutEnd block ok) ∷ past) b) (stamp_in after b))
     → RepresentsBy geometry settings reading epoch before body past
     → RepresentsBy geometry settings now epoch after body (at pass now (kind.PutEnd block ok) ∷ past)
 ends_as geometry settings reading epoch now before after body past pass block ok later on same_content same_get here
@@ -76,8 +79,17 @@ ends_as geometry settings reading epoch now before after body past pass block ok
       gets = gets;
       puts = λ b. puts b ∙ sym (closed b);
       stamps = stamps;
-      later = λ b. rw (unwritten b, since_closed (puts_of (entry ∷ past) b) (unacked_writes geometry.block_size nothing_found (entry ∷ past) b) (puts b)) (no_stamp (entry ∷ past));
-      rules = (ends_put (puts_of past block) pass (open_put_here block pass (open_put (puts_of past block)) (s.puts block ∙ here block)), (rw s.last at later), s.rules);
+      later = λ b. rw (
+        unwritten b,
+        since_closed (puts_of (entry ∷ past) b)
+            (unacked_writes geometry.block_size nothing_found (entry ∷ past) b) (puts b),
+      ) (no_stamp (entry ∷ past));
+      rules = (
+        ends_put (puts_of past block) pass (open_put_here block pass (open_put (puts_of past block))
+            (s.puts block ∙ here block)),
+        (rw s.last at later),
+        s.rules,
+      );
       policy = (tt, fits_cache geometry settings after body (entry ∷ past) s.base on contents gets, s.policy);
     }
 
@@ -93,14 +105,19 @@ writing_ends geometry settings reading epoch now body past pass block stamp true
     let writes = unacked_writes geometry.block_size nothing_found past b in
     let since = subst (λ (o : Option ℕ). IsStampOf past (writes_since (puts_of past b) writes) o)
     (sym (none_either (nat_eq block b))) (s.later b) in
-    subst (λ (o : Option ℕ). IsStampOf (at pass now (kind.PutEnd block true) ∷ past) (if nat_eq block b then filter (λ write. nat_le (newest_place (puts_of past b)) write) writes else writes) o) (none_either (nat_eq block b))
-    (acked_stamp (nat_eq block b) (at pass now (kind.PutEnd block true)) past (puts_of past b) writes pass stamp None refl (λ m. refl) (s.puts b) (s.stamps b) since))
+    subst (λ (o : Option ℕ). IsStampOf (at pass now (kind.PutEnd block true) ∷ past)
+    (if nat_eq block b then filter (λ write. nat_le (newest_place (puts_of past b)) write) writes else writes) o)
+    (none_either (nat_eq block b))
+    (acked_stamp (nat_eq block b) (at pass now (kind.PutEnd block true)) past
+    (puts_of past b) writes pass stamp None refl (λ m. refl) (s.puts b) (s.stamps b) since))
     s
 writing_ends geometry settings reading epoch now body past pass block stamp false later s =
     ends_as geometry settings reading epoch now (Writing block pass stamp) (Dirty block stamp) body past pass block
     false later s.on_disk (λ b. refl) (λ b. refl) (λ b. refl) (λ b. refl) (λ b. refl)
     (λ b.
-    rw (failed_writes (nat_eq block b) (filter (λ write. nat_le (newest_place (puts_of past b)) write) (unacked_writes geometry.block_size nothing_found past b)) (unacked_writes geometry.block_size nothing_found past b))
+    rw (failed_writes (nat_eq block b) (filter (λ write. nat_le (newest_place (puts_of past b)) write)
+    (unacked_writes geometry.block_size nothing_found past b))
+    (unacked_writes geometry.block_size nothing_found past b))
     (kept_stamp (at pass now (kind.PutEnd block false)) past _ _ refl (λ m. refl) (s.stamps b)))
     s
 
@@ -112,13 +129,17 @@ writing2_ends : (geometry : Geometry) (settings : Settings) (reading epoch now :
 writing2_ends geometry settings reading epoch now body past pass block stamp more true later s =
     ends_as geometry settings reading epoch now (Writing2 block pass stamp more) (Dirty block more) body past pass block
     true later s.on_disk (λ b. refl) (λ b. refl) (λ b. refl) (λ b. refl) (λ b. refl)
-    (λ b. acked_stamp (nat_eq block b) (at pass now (kind.PutEnd block true)) past (puts_of past b) (unacked_writes geometry.block_size nothing_found past b) pass stamp (Some more) refl (λ m. refl) (s.puts b) (s.stamps b) (s.later b))
+    (λ b. acked_stamp (nat_eq block b) (at pass now (kind.PutEnd block true)) past (puts_of past b)
+    (unacked_writes geometry.block_size nothing_found past b) pass stamp (Some more) refl (λ m. refl) (s.puts b)
+    (s.stamps b) (s.later b))
     s
 writing2_ends geometry settings reading epoch now body past pass block stamp more false later s =
     ends_as geometry settings reading epoch now (Writing2 block pass stamp more) (Dirty block stamp) body past pass
     block false later s.on_disk (λ b. refl) (λ b. refl) (λ b. refl) (λ b. refl) (λ b. refl)
     (λ b.
-    rw (failed_writes (nat_eq block b) (filter (λ write. nat_le (newest_place (puts_of past b)) write) (unacked_writes geometry.block_size nothing_found past b)) (unacked_writes geometry.block_size nothing_found past b))
+    rw (failed_writes (nat_eq block b) (filter (λ write. nat_le (newest_place (puts_of past b)) write)
+    (unacked_writes geometry.block_size nothing_found past b))
+    (unacked_writes geometry.block_size nothing_found past b))
     (kept_stamp (at pass now (kind.PutEnd block false)) past _ _ refl (λ m. refl) (s.stamps b)))
     s
 
@@ -134,14 +155,21 @@ pub put_ends : (geometry : Geometry) (settings : Settings) (reading epoch now : 
     (at pass now (kind.PutEnd block ok) ∷ past)
 put_ends geometry settings reading epoch now (Writing held by stamp) body past pass block ok later is s =
     let open_in = put_at held by block pass (nat_eq held block) refl is in
-    subst (λ (h : ℕ). RepresentsBy geometry settings now epoch (state_put_ended (Writing h by stamp) ok) body (at pass now (kind.PutEnd block ok) ∷ past)) (sym open_in.0)
-    (subst (λ (p : ℕ). RepresentsBy geometry settings now epoch (state_put_ended (Writing block p stamp) ok) body (at pass now (kind.PutEnd block ok) ∷ past)) (sym open_in.1)
-    (writing_ends geometry settings reading epoch now body past pass block stamp ok later (rw (open_in.0, open_in.1) at s)))
+    subst (λ (h : ℕ). RepresentsBy geometry settings now epoch (state_put_ended (Writing h by stamp) ok) body
+    (at pass now (kind.PutEnd block ok) ∷ past)) (sym open_in.0)
+    (subst (λ (p : ℕ). RepresentsBy geometry settings now epoch (state_put_ended (Writing block p stamp) ok) body
+    (at pass now (kind.PutEnd block ok) ∷ past)) (sym open_in.1)
+    (writing_ends geometry settings reading epoch now body past pass block stamp ok later
+    (rw (open_in.0, open_in.1) at s)))
 put_ends geometry settings reading epoch now (Writing2 held by stamp more) body past pass block ok later is s =
     let open_in = put_at held by block pass (nat_eq held block) refl is in
-    subst (λ (h : ℕ). RepresentsBy geometry settings now epoch (state_put_ended (Writing2 h by stamp more) ok) body (at pass now (kind.PutEnd block ok) ∷ past)) (sym open_in.0)
-    (subst (λ (p : ℕ). RepresentsBy geometry settings now epoch (state_put_ended (Writing2 block p stamp more) ok) body (at pass now (kind.PutEnd block ok) ∷ past)) (sym open_in.1)
-    (writing2_ends geometry settings reading epoch now body past pass block stamp more ok later (rw (open_in.0, open_in.1) at s)))
+    subst (λ (h : ℕ). RepresentsBy geometry settings now epoch (state_put_ended (Writing2 h by stamp more) ok) body
+    (at pass now (kind.PutEnd block ok) ∷ past)) (sym open_in.0)
+    (subst (λ (p : ℕ). RepresentsBy geometry settings now epoch
+    (state_put_ended (Writing2 block p stamp more) ok) body (at pass now (kind.PutEnd block ok) ∷ past))
+    (sym open_in.1)
+    (writing2_ends geometry settings reading epoch now body past pass block stamp more ok later
+    (rw (open_in.0, open_in.1) at s)))
 put_ends geometry settings reading epoch now Missing body past pass block ok later is s = absurd (cc)
 put_ends geometry settings reading epoch now (Reading held by begun) body past pass block ok later is s = absurd (cc)
 put_ends geometry settings reading epoch now (Clean held) body past pass block ok later is s = absurd (cc)

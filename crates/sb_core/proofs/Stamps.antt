@@ -1,5 +1,7 @@
 -- How the stamps of a block follow its writes, its puts and the flushes.
-use Rattle.std.proofs.Common.{ℕ, suc, ◌≡◌, ◌<◌, ◌≤◌, Bool, true, false, ◌&&◌, nat_eq, nat_lt, nat_le, if◌then◌else◌, min, List, [], ◌∷◌, length, filter, Option, Some, None, IfSome, is_none, refl, sym, ◌∙◌, subst, arith, rules}
+use Rattle.std.proofs.Common.{ℕ, suc, ◌≡◌, ◌<◌, ◌≤◌, Bool, true, false, ◌&&◌, nat_eq, nat_lt, nat_le, if◌then◌else◌}
+use Rattle.std.proofs.Common.{min, List, [], ◌∷◌, length, filter, Option, Some, None, IfSome, is_none, refl, sym, ◌∙◌}
+use Rattle.std.proofs.Common.{subst, arith, rules}
 use Rattle.std.proofs.lemmas.Bool.{eqb-true, eqb-false, lt-leb, le-leb}
 use Rattle.std.proofs.lemmas.Bool.Decides.{nat_tests}
 use Rattle.std.specs.List.{list_all}
@@ -110,7 +112,9 @@ flush_stamp pass now epoch past writes stamp all is old = record {
   by mark place true here began =
       let at : length past ≡ place = cc in
       let mine = eqb-true epoch mark here in
-      subst (λ p. is_unstamped_by mark p writes ≡ is_above stamp mark) at (begun_mark mark (length past) writes stamp all old.some (given_later stamp (min (flushes_begun past) last_number) mark (omega arith) old.given))
+      subst (λ p. is_unstamped_by mark p writes ≡ is_above stamp mark) at
+      (begun_mark mark (length past) writes stamp all old.some
+      (given_later stamp (min (flushes_begun past) last_number) mark (omega arith) old.given))
   by mark place false other began = old.marks mark place began
 
 -- writes since the begin of the open put are writes

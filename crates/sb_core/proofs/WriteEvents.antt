@@ -1,5 +1,6 @@
 -- A core that represents a history represents it with one entry more: writes.
-use Rattle.std.proofs.Common.{ℕ, ◌≡◌, ◌+◌, ◌<◌, ◌≤◌, Bool, true, false, not, ◌&&◌, nat_eq, if◌then◌else◌, min, List, [], ◌∷◌, length, Option, Some, None, refl, sym, ◌∙◌, ap, subst, arith}
+use Rattle.std.proofs.Common.{ℕ, ◌≡◌, ◌+◌, ◌<◌, ◌≤◌, Bool, true, false, not, ◌&&◌, nat_eq, if◌then◌else◌, min, List, []}
+use Rattle.std.proofs.Common.{◌∷◌, length, Option, Some, None, refl, sym, ◌∙◌, ap, subst, arith}
 use Rattle.std.proofs.lemmas.Grind.{common_steps}
 use Rattle.std.proofs.lemmas.Bool.{eqb-true}
 use Rattle.sb_base.specs.declared.geometry.Geometry.{Geometry}
@@ -17,7 +18,8 @@ use Rattle.sb_history.specs.AccessRules.{last_reading, FollowsAccessRules}
 use Rattle.sb_core.specs.declared.state.State.{State}
 use Rattle.sb_core.specs.declared.state.State.TheVariants.{Missing, Reading, Clean, Dirty, Writing, Writing2}
 use Rattle.sb_core.specs.Moves.{state_written}
-use Rattle.sb_core.specs.Represents.{nothing_found, content_in, get_in, open_get, put_in, open_put, stamp_in, later_in, writes_since, IsStampOf, IsOnDisk, RepresentsBy}
+use Rattle.sb_core.specs.Represents.{nothing_found, content_in, get_in, open_get, put_in, open_put, stamp_in, later_in}
+use Rattle.sb_core.specs.Represents.{writes_since, IsStampOf, IsOnDisk, RepresentsBy}
 use Rattle.sb_core.proofs.Histories.{none_known_zero, newest_within, NewestWithin}
 use Rattle.sb_core.proofs.Fields.{same, get_closed, fits_cache, no_stamp, kept_stamp, since_closed}
 use Rattle.sb_core.proofs.Events.{at}
@@ -100,10 +102,18 @@ writes_as :
     (geometry : Geometry) (settings : Settings) (reading epoch now : ℕ) (before after : State) (old new : List ℕ)
     (past : List Entry) (pass : ℕ) (part : Part) (bytes : List ℕ) → reading ≤ now → IsOnDisk geometry.blocks after →
     length new ≡ geometry.block_size
-    → part.offset + length bytes ≤ geometry.block_size → (cached_content geometry.block_size nothing_found past part.block ≡ None → (part.offset ≡ 0) × (length bytes ≡ geometry.block_size))
-    → ((b : ℕ) → cached_content geometry.block_size nothing_found (at pass now (kind.Write part bytes) ∷ past) b ≡ content_in after new b) → ((b : ℕ) → get_in before b ≡ None) → ((b : ℕ) → get_in after b ≡ None) → ((b : ℕ) → put_in before b ≡ put_in after b)
-    → ((b : ℕ) → IsStampOf (at pass now (kind.Write part bytes) ∷ past) (unacked_writes geometry.block_size nothing_found (at pass now (kind.Write part bytes) ∷ past) b) (stamp_in after b))
-    → ((b : ℕ) → IsStampOf (at pass now (kind.Write part bytes) ∷ past) (writes_since (puts_of past b) (unacked_writes geometry.block_size nothing_found (at pass now (kind.Write part bytes) ∷ past) b)) (later_in after b))
+    → part.offset + length bytes ≤ geometry.block_size
+    → (cached_content geometry.block_size nothing_found past part.block ≡ None
+    → (part.offset ≡ 0) × (length bytes ≡ geometry.block_size))
+    → ((b : ℕ) → cached_content geometry.block_size nothing_found
+    (at pass now (kind.Write part bytes) ∷ past) b ≡ content_in after new b) → ((b : ℕ) → get_in before b ≡ None)
+    → ((b : ℕ) → get_in after b ≡ None) → ((b : ℕ) → put_in before b ≡ put_in after b)
+    → ((b : ℕ) → IsStampOf (at pass now (kind.Write part bytes) ∷ past)
+    (unacked_writes geometry.block_size nothing_found (at pass now (kind.Write part bytes) ∷ past) b)
+    (stamp_in after b))
+    → ((b : ℕ) → IsStampOf (at pass now (kind.Write part bytes) ∷ past)
+    (writes_since (puts_of past b) (unacked_writes geometry.block_size nothing_found
+    (at pass now (kind.Write part bytes) ∷ past) b)) (later_in after b))
     → RepresentsBy geometry settings reading epoch before old past
     → RepresentsBy geometry settings now epoch after new (at pass now (kind.Write part bytes) ∷ past)
 writes_as geometry settings reading epoch now before after old new past pass part bytes later on sized fits whole
@@ -157,10 +167,17 @@ clean_written geometry settings reading epoch now old past pass part bytes later
     let entry = at pass now (kind.Write part bytes) in
     writes_as geometry settings reading epoch now (Clean part.block) (Dirty part.block epoch) old
     (overlay old part.offset bytes) past pass part bytes later s.on_disk sized fits
-    (λ uncached. absurd (not_held (nat_eq part.block part.block) (cached_content size nothing_found past part.block) old (same part.block) (s.contents part.block) uncached))
-    (λ b. written_content (nat_eq part.block b) (is_known_zero size nothing_found past b) size (cached_content size nothing_found past b) old part bytes (s.contents b)) (λ b. refl) (λ b. refl) (λ b. refl)
-    (λ b. fresh_writes geometry settings entry past s.rules refl (λ m. refl) (nat_eq part.block b) (is_known_zero size nothing_found past b) (not (newest_is_open (puts_of past b))) (is_zeros (outcome size (cached_content size nothing_found past b) part bytes)) (unacked_writes size nothing_found past b) epoch (none_known_zero size nothing_found refl past b) s.epochs (s.stamps b))
-    (λ b. rw (since_closed (puts_of past b) (unacked_writes size nothing_found (entry ∷ past) b) (s.puts b)) (no_stamp (entry ∷ past)))
+    (λ uncached. absurd (not_held (nat_eq part.block part.block)
+    (cached_content size nothing_found past part.block) old (same part.block) (s.contents part.block) uncached))
+    (λ b. written_content (nat_eq part.block b) (is_known_zero size nothing_found past b) size
+    (cached_content size nothing_found past b) old part bytes (s.contents b)) (λ b. refl) (λ b. refl) (λ b. refl)
+    (λ b. fresh_writes geometry settings entry past s.rules refl (λ m. refl) (nat_eq part.block b)
+    (is_known_zero size nothing_found past b) (not (newest_is_open (puts_of past b)))
+    (is_zeros (outcome size (cached_content size nothing_found past b) part bytes))
+    (unacked_writes size nothing_found past b) epoch (none_known_zero size nothing_found refl past b) s.epochs
+    (s.stamps b))
+    (λ b. rw (since_closed (puts_of past b) (unacked_writes size nothing_found (entry ∷ past) b) (s.puts b))
+    (no_stamp (entry ∷ past)))
     s
 
 dirty_written :
@@ -172,10 +189,16 @@ dirty_written geometry settings reading epoch now old past pass part bytes stamp
     let entry = at pass now (kind.Write part bytes) in
     writes_as geometry settings reading epoch now (Dirty part.block stamp) (Dirty part.block stamp) old
     (overlay old part.offset bytes) past pass part bytes later s.on_disk sized fits
-    (λ uncached. absurd (not_held (nat_eq part.block part.block) (cached_content size nothing_found past part.block) old (same part.block) (s.contents part.block) uncached))
-    (λ b. written_content (nat_eq part.block b) (is_known_zero size nothing_found past b) size (cached_content size nothing_found past b) old part bytes (s.contents b)) (λ b. refl) (λ b. refl) (λ b. refl)
-    (λ b. more_writes geometry settings entry past s.rules refl (λ m. refl) (nat_eq part.block b) (is_known_zero size nothing_found past b) (not (newest_is_open (puts_of past b))) (is_zeros (outcome size (cached_content size nothing_found past b) part bytes)) (unacked_writes size nothing_found past b) stamp (none_known_zero size nothing_found refl past b) (s.stamps b))
-    (λ b. rw (since_closed (puts_of past b) (unacked_writes size nothing_found (entry ∷ past) b) (s.puts b)) (no_stamp (entry ∷ past)))
+    (λ uncached. absurd (not_held (nat_eq part.block part.block)
+    (cached_content size nothing_found past part.block) old (same part.block) (s.contents part.block) uncached))
+    (λ b. written_content (nat_eq part.block b) (is_known_zero size nothing_found past b) size
+    (cached_content size nothing_found past b) old part bytes (s.contents b)) (λ b. refl) (λ b. refl) (λ b. refl)
+    (λ b. more_writes geometry settings entry past s.rules refl (λ m. refl) (nat_eq part.block b)
+    (is_known_zero size nothing_found past b) (not (newest_is_open (puts_of past b)))
+    (is_zeros (outcome size (cached_content size nothing_found past b) part bytes))
+    (unacked_writes size nothing_found past b) stamp (none_known_zero size nothing_found refl past b) (s.stamps b))
+    (λ b. rw (since_closed (puts_of past b) (unacked_writes size nothing_found (entry ∷ past) b) (s.puts b))
+    (no_stamp (entry ∷ past)))
     s
 
 writing_written :
@@ -187,10 +210,20 @@ writing_written geometry settings reading epoch now old past pass part bytes by 
     let entry = at pass now (kind.Write part bytes) in
     writes_as geometry settings reading epoch now (Writing part.block by stamp) (Writing2 part.block by stamp epoch) old
     (overlay old part.offset bytes) past pass part bytes later s.on_disk sized fits
-    (λ uncached. absurd (not_held (nat_eq part.block part.block) (cached_content size nothing_found past part.block) old (same part.block) (s.contents part.block) uncached))
-    (λ b. written_content (nat_eq part.block b) (is_known_zero size nothing_found past b) size (cached_content size nothing_found past b) old part bytes (s.contents b)) (λ b. refl) (λ b. refl) (λ b. refl)
-    (λ b. more_writes geometry settings entry past s.rules refl (λ m. refl) (nat_eq part.block b) (is_known_zero size nothing_found past b) (not (newest_is_open (puts_of past b))) (is_zeros (outcome size (cached_content size nothing_found past b) part bytes)) (unacked_writes size nothing_found past b) stamp (none_known_zero size nothing_found refl past b) (s.stamps b))
-    (λ b. fresh_since geometry settings entry past s.rules refl (λ m. refl) (nat_eq part.block b) (is_known_zero size nothing_found past b) (not (newest_is_open (puts_of past b))) (is_zeros (outcome size (cached_content size nothing_found past b) part bytes)) (last_reading past) by (puts_of past b) (unacked_writes size nothing_found past b) epoch (none_known_zero size nothing_found refl past b) s.epochs (newest_within geometry settings nothing_found past b s.rules) (s.puts b) (s.later b))
+    (λ uncached. absurd (not_held (nat_eq part.block part.block)
+    (cached_content size nothing_found past part.block) old (same part.block) (s.contents part.block) uncached))
+    (λ b. written_content (nat_eq part.block b) (is_known_zero size nothing_found past b) size
+    (cached_content size nothing_found past b) old part bytes (s.contents b)) (λ b. refl) (λ b. refl) (λ b. refl)
+    (λ b. more_writes geometry settings entry past s.rules refl (λ m. refl) (nat_eq part.block b)
+    (is_known_zero size nothing_found past b) (not (newest_is_open (puts_of past b)))
+    (is_zeros (outcome size (cached_content size nothing_found past b) part bytes))
+    (unacked_writes size nothing_found past b) stamp (none_known_zero size nothing_found refl past b) (s.stamps b))
+    (λ b. fresh_since geometry settings entry past s.rules refl (λ m. refl) (nat_eq part.block b)
+    (is_known_zero size nothing_found past b) (not (newest_is_open (puts_of past b)))
+    (is_zeros (outcome size (cached_content size nothing_found past b) part bytes)) (last_reading past) by
+    (puts_of past b) (unacked_writes size nothing_found past b) epoch
+    (none_known_zero size nothing_found refl past b) s.epochs
+    (newest_within geometry settings nothing_found past b s.rules) (s.puts b) (s.later b))
     s
 
 writing2_written :
@@ -203,10 +236,20 @@ writing2_written geometry settings reading epoch now old past pass part bytes by
     writes_as geometry settings reading epoch now (Writing2 part.block by stamp more)
     (Writing2 part.block by stamp more) old (overlay old part.offset bytes) past pass part bytes later s.on_disk sized
     fits
-    (λ uncached. absurd (not_held (nat_eq part.block part.block) (cached_content size nothing_found past part.block) old (same part.block) (s.contents part.block) uncached))
-    (λ b. written_content (nat_eq part.block b) (is_known_zero size nothing_found past b) size (cached_content size nothing_found past b) old part bytes (s.contents b)) (λ b. refl) (λ b. refl) (λ b. refl)
-    (λ b. more_writes geometry settings entry past s.rules refl (λ m. refl) (nat_eq part.block b) (is_known_zero size nothing_found past b) (not (newest_is_open (puts_of past b))) (is_zeros (outcome size (cached_content size nothing_found past b) part bytes)) (unacked_writes size nothing_found past b) stamp (none_known_zero size nothing_found refl past b) (s.stamps b))
-    (λ b. more_since geometry settings entry past s.rules refl (λ m. refl) (nat_eq part.block b) (is_known_zero size nothing_found past b) (not (newest_is_open (puts_of past b))) (is_zeros (outcome size (cached_content size nothing_found past b) part bytes)) (last_reading past) by (puts_of past b) (unacked_writes size nothing_found past b) more (none_known_zero size nothing_found refl past b) (newest_within geometry settings nothing_found past b s.rules) (s.puts b) (s.later b))
+    (λ uncached. absurd (not_held (nat_eq part.block part.block)
+    (cached_content size nothing_found past part.block) old (same part.block) (s.contents part.block) uncached))
+    (λ b. written_content (nat_eq part.block b) (is_known_zero size nothing_found past b) size
+    (cached_content size nothing_found past b) old part bytes (s.contents b)) (λ b. refl) (λ b. refl) (λ b. refl)
+    (λ b. more_writes geometry settings entry past s.rules refl (λ m. refl) (nat_eq part.block b)
+    (is_known_zero size nothing_found past b) (not (newest_is_open (puts_of past b)))
+    (is_zeros (outcome size (cached_content size nothing_found past b) part bytes))
+    (unacked_writes size nothing_found past b) stamp (none_known_zero size nothing_found refl past b) (s.stamps b))
+    (λ b. more_since geometry settings entry past s.rules refl (λ m. refl) (nat_eq part.block b)
+    (is_known_zero size nothing_found past b) (not (newest_is_open (puts_of past b)))
+    (is_zeros (outcome size (cached_content size nothing_found past b) part bytes)) (last_reading past) by
+    (puts_of past b) (unacked_writes size nothing_found past b) more
+    (none_known_zero size nothing_found refl past b) (newest_within geometry settings nothing_found past b
+    s.rules) (s.puts b) (s.later b))
     s
 
 held_at :
@@ -250,7 +293,14 @@ whole_written geometry settings reading epoch now old past pass part bytes later
     let entry = at pass now (kind.Write part bytes) in
     writes_as geometry settings reading epoch now Missing (Dirty part.block epoch) old bytes past pass part bytes later
     on whole (omega arith) (λ uncached. (start, whole))
-    (λ b. filled_content (nat_eq part.block b) (is_known_zero size nothing_found past b) size (cached_content size nothing_found past b) part bytes (s.contents b) (none_known_zero size nothing_found refl past b) start whole) (λ b. refl) (λ b. refl) (λ b. refl)
-    (λ b. fresh_writes geometry settings entry past s.rules refl (λ m. refl) (nat_eq part.block b) (is_known_zero size nothing_found past b) (not (newest_is_open (puts_of past b))) (is_zeros (outcome size (cached_content size nothing_found past b) part bytes)) (unacked_writes size nothing_found past b) epoch (none_known_zero size nothing_found refl past b) s.epochs (s.stamps b))
-    (λ b. rw (since_closed (puts_of past b) (unacked_writes size nothing_found (entry ∷ past) b) (s.puts b)) (no_stamp (entry ∷ past)))
+    (λ b. filled_content (nat_eq part.block b) (is_known_zero size nothing_found past b) size
+    (cached_content size nothing_found past b) part bytes (s.contents b)
+    (none_known_zero size nothing_found refl past b) start whole) (λ b. refl) (λ b. refl) (λ b. refl)
+    (λ b. fresh_writes geometry settings entry past s.rules refl (λ m. refl) (nat_eq part.block b)
+    (is_known_zero size nothing_found past b) (not (newest_is_open (puts_of past b)))
+    (is_zeros (outcome size (cached_content size nothing_found past b) part bytes))
+    (unacked_writes size nothing_found past b) epoch (none_known_zero size nothing_found refl past b) s.epochs
+    (s.stamps b))
+    (λ b. rw (since_closed (puts_of past b) (unacked_writes size nothing_found (entry ∷ past) b) (s.puts b))
+    (no_stamp (entry ∷ past)))
     s

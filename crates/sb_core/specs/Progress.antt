@@ -60,7 +60,8 @@ pub record LeadsOn (old new : Core) (block : ℕ) : Type 0 where
   pub idle : IsIdle new
   pub closer : steps_left new block < steps_left old block
 
--- where an answer to a read leads: a core that is idle never lets the read wait, and is idle again unless a GET or a PUT
+-- where an answer to a read leads: a core that is idle never lets the read wait, and is idle again unless a GET or a
+-- PUT
 -- has begun
 abbrev pub ReadLeads : Core → Core → ℕ → ℕ → ReadStep → Type 0
 ReadLeads old new pass block read.Done = IsIdle old → IsIdle new

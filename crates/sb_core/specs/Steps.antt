@@ -1,5 +1,6 @@
 -- What each event answers, and the entry that it adds.
-use Rattle.std.specs.Prelude.{ℕ, ◌≡◌, Bool, true, false, nat_eq, nat_le, if◌then◌else◌, List, length, Option, Some, None}
+use Rattle.std.specs.Prelude.{ℕ, ◌≡◌, Bool, true, false, nat_eq, nat_le, if◌then◌else◌, List, length, Option, Some}
+use Rattle.std.specs.Prelude.{None}
 use Rattle.sb_base.specs.declared.part.Part.{Part}
 use Rattle.sb_base.specs.declared.line.Why.TheVariants.{Busy, NoRoom}
 use Rattle.sb_base.specs.declared.entry.Shown.{Shown}
@@ -31,7 +32,8 @@ get_job block reading = record { block = block; expect = None; verify = None; be
 abbrev pub put_job : ℕ → List ℕ → PutJob
 put_job block content = record { block = block; zeros = is_zeros content }
 
--- how a read of a block is answered: from what is held, later while the block is read, by a GET where there is room, and
+-- how a read of a block is answered: from what is held, later while the block is read, by a GET where there is room,
+-- and
 -- else a clean block leaves, a dirty one is put, and one that is being read or put is waited for
 abbrev pub read_answer : State → List ℕ → ℕ → ℕ → ReadStep
 read_answer Missing body reading block = read.Get (get_job block reading)

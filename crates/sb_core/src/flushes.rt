@@ -28,8 +28,8 @@ impl Core {
         mark
     }
 
-    /// Makes a step of a flush that has begun with this mark. `out` is one block long, and has the body where the answer is
-    /// a PUT.
+    /// Makes a step of a flush that has begun with this mark. `out` is one block long, and has the body where the
+    /// answer is a PUT.
     pub fn flush_step(&mut self, now: u64, pass: u64, mark: Mark, out: &mut [u8]) -> FlushStep
         requires now { now ≤ 2 ^ 62 }
         requires out { length out.old ≡ (geometry_of self.old).block_size }

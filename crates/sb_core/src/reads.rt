@@ -12,11 +12,19 @@ use sb_base::{Answer, Part, Why};
 
 impl Core {
     ghost use Rattle.sb_core.specs.Represents.{geometry_of, reading_of, reading_at, Adds};
-    ghost use Rattle.sb_core.specs.Steps.{AnswersRead, CopiesRead, read_entry, HasGet, ShownFits, get_end_answer, get_end_entry};
+    ghost use Rattle.sb_core.specs.Steps.{
+      AnswersRead,
+      CopiesRead,
+      read_entry,
+      HasGet,
+      ShownFits,
+      get_end_answer,
+      get_end_entry,
+    };
     ghost use Rattle.sb_core.specs.Progress.{IsIdle, IsCloser, ReadLeads, SameBase};
 
-    /// Reads a part of a block into `out`, which is as long as the part. `room` is one block long, and has the body where
-    /// the answer is a PUT. `now` is a reading in milliseconds.
+    /// Reads a part of a block into `out`, which is as long as the part. `room` is one block long, and has the body
+    /// where the answer is a PUT. `now` is a reading in milliseconds.
     pub fn read(
         &mut self,
         now: u64,

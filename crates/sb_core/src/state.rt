@@ -16,8 +16,8 @@
 
 ghost use Rattle.std.specs.Prelude.{◌≡◌};
 
-/// What the entry holds. A pass is the number of the pass that began the request, and a stamp the epoch at the first write
-/// that no PUT has acknowledged.
+/// What the entry holds. A pass is the number of the pass that began the request, and a stamp the epoch at the first
+/// write that no PUT has acknowledged.
 #[derive(Drop, Clone, Copy, PartialEq, Eq, Debug)]
 pub(crate) enum State {
     Missing,

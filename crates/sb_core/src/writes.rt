@@ -14,8 +14,8 @@ impl Core {
     ghost use Rattle.sb_core.specs.Steps.{AnswersWrite, CopiesWrite, write_entry, HasPut, put_end_entry};
     ghost use Rattle.sb_core.specs.Progress.{IsIdle, IsCloser, WriteLeads, SameBase};
 
-    /// Writes a part of a block, whose `bytes` are as long as the part. `out` is one block long, and has the body where the
-    /// answer is a PUT.
+    /// Writes a part of a block, whose `bytes` are as long as the part. `out` is one block long, and has the body where
+    /// the answer is a PUT.
     pub fn write(
         &mut self,
         now: u64,

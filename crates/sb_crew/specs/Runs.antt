@@ -1,4 +1,5 @@
--- What the calls of a disk on one thread did: how the core moved, and what tape, link and clock gained. Entries, calls and
+-- What the calls of a disk on one thread did: how the core moved, and what tape, link and clock gained. Entries, calls
+-- and
 -- ticks are newest first.
 use Rattle.std.specs.Prelude.{ℕ, ◌*◌, true, List, ◌++◌, Option, Some, None, IsSome}
 use Rattle.sb_base.specs.declared.geometry.Geometry.{Geometry}

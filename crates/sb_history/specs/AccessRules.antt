@@ -7,7 +7,8 @@ use Rattle.sb_base.specs.declared.settings.Settings.{Settings}
 use Rattle.sb_base.specs.declared.line.Expect.{Expect}
 use Rattle.sb_base.specs.declared.entry.Shown.{Shown}
 use Rattle.sb_base.specs.declared.entry.EntryKind.{EntryKind}
-use Rattle.sb_base.specs.declared.entry.EntryKind.TheVariants.{KnownZero, Read, Write, FlushBegin, FlushDone, GetBegin, GetEnd, PutBegin, PutEnd}
+use Rattle.sb_base.specs.declared.entry.EntryKind.TheVariants.{KnownZero, Read, Write, FlushBegin, FlushDone, GetBegin}
+use Rattle.sb_base.specs.declared.entry.EntryKind.TheVariants.{GetEnd, PutBegin, PutEnd}
 use Rattle.sb_base.specs.declared.entry.Entry.{Entry}
 use Rattle.sb_history.specs.Contents.{zeros, part_bytes}
 use Rattle.sb_history.specs.Puts.{Put, puts_of, put_open}

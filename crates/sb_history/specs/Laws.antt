@@ -1,5 +1,6 @@
 -- The laws of histories, as statements. The crate sb_laws proves each.
-use Rattle.std.specs.Prelude.{ℕ, ◌≡◌, ◌≢◌, ◌+◌, ◌<◌, ◌≤◌, false, not, nat_le, List, ◌∷◌, ◌++◌, length, Option, Some, None, Contains, max}
+use Rattle.std.specs.Prelude.{ℕ, ◌≡◌, ◌≢◌, ◌+◌, ◌<◌, ◌≤◌, false, not, nat_le, List, ◌∷◌, ◌++◌, length, Option, Some}
+use Rattle.std.specs.Prelude.{None, Contains, max}
 use Rattle.sb_base.specs.SettingsTable.{IsChecked}
 use Rattle.sb_base.specs.declared.part.Part.{Part}
 use Rattle.sb_base.specs.declared.geometry.Geometry.{Geometry}

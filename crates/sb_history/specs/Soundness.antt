@@ -6,7 +6,8 @@ use Rattle.sb_base.specs.declared.geometry.Geometry.{Geometry}
 use Rattle.sb_base.specs.declared.settings.Settings.{Settings}
 use Rattle.sb_base.specs.declared.entry.Shown.TheVariants as shown
 use Rattle.sb_base.specs.declared.entry.EntryKind.{EntryKind}
-use Rattle.sb_base.specs.declared.entry.EntryKind.TheVariants.{KnownZero, Read, Write, GetBegin, GetEnd, PutBegin, PutEnd, Dropped}
+use Rattle.sb_base.specs.declared.entry.EntryKind.TheVariants.{KnownZero, Read, Write, GetBegin, GetEnd, PutBegin}
+use Rattle.sb_base.specs.declared.entry.EntryKind.TheVariants.{PutEnd, Dropped}
 use Rattle.sb_base.specs.declared.entry.Entry.{Entry}
 use Rattle.sb_history.specs.Contents.{Start, FillBlocks, zeros}
 use Rattle.sb_history.specs.Visibility.{Delays, IsStaleWithin}

@@ -1,7 +1,9 @@
 -- The state of a block in the cache, and the table of its changes.
-use Rattle.std.specs.Prelude.{ℕ, Bool, true, false, not, ◌&&◌, nat_eq, nat_le, if◌then◌else◌, List, filter, Option, Some, None}
+use Rattle.std.specs.Prelude.{ℕ, Bool, true, false, not, ◌&&◌, nat_eq, nat_le, if◌then◌else◌, List, filter, Option}
+use Rattle.std.specs.Prelude.{Some, None}
 use Rattle.sb_base.specs.declared.entry.EntryKind.{EntryKind}
-use Rattle.sb_base.specs.declared.entry.EntryKind.TheVariants.{KnownZero, Write, GetBegin, GetEnd, PutBegin, PutEnd, Dropped}
+use Rattle.sb_base.specs.declared.entry.EntryKind.TheVariants.{KnownZero, Write, GetBegin, GetEnd, PutBegin, PutEnd}
+use Rattle.sb_base.specs.declared.entry.EntryKind.TheVariants.{Dropped}
 use Rattle.sb_base.specs.declared.entry.Entry.{Entry}
 use Rattle.sb_history.specs.Contents.{is_zeros}
 use Rattle.sb_history.specs.Puts.{Put, puts_of, newest_is_open, newest_place}

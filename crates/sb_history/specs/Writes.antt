@@ -1,5 +1,6 @@
 -- The writes of a block that no put has acknowledged: they make it dirty, and keep flushes waiting.
-use Rattle.std.specs.Prelude.{ℕ, Bool, true, false, not, ◌&&◌, nat_eq, nat_le, if◌then◌else◌, List, [], ◌∷◌, length, filter, Option, Some, None, unwrap_or, max}
+use Rattle.std.specs.Prelude.{ℕ, Bool, true, false, not, ◌&&◌, nat_eq, nat_le, if◌then◌else◌, List, [], ◌∷◌, length}
+use Rattle.std.specs.Prelude.{filter, Option, Some, None, unwrap_or, max}
 use Rattle.std.specs.List.{list_all}
 use Rattle.sb_base.specs.declared.entry.EntryKind.{EntryKind}
 use Rattle.sb_base.specs.declared.entry.EntryKind.TheVariants.{Write, PutEnd}

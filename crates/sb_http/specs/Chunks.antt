@@ -33,7 +33,8 @@ print_chunks chunks = flat_map print_chunk chunks
 abbrev pub content_of : List Chunk → List ℕ
 content_of chunks = flat_map (λ chunk. chunk.content) chunks
 
--- where behind whole chunks the reading stands: in a size line, in what a chunk carries, in its line end or in the trailer
+-- where behind whole chunks the reading stands: in a size line, in what a chunk carries, in its line end or in the
+-- trailer
 pub data Place : Type 0 where
   in_size : (bytes : List ℕ) → Place
   in_content : (line : List ℕ) (size : ℕ) (bytes : List ℕ) → Place
@@ -91,7 +92,8 @@ IsOver limit got (in_content line size bytes) = ⊥
 IsOver limit got (in_end line content bytes) = ⊥
 IsOver limit got (in_trailer line bytes) = ⊥
 
--- how the reading ends at a place, where so much of the body came, with these bytes left, at the input's end or before it
+-- how the reading ends at a place, where so much of the body came, with these bytes left, at the input's end or before
+-- it
 abbrev pub EndsChunks : ℕ → ℕ → Place → List ℕ → Bool → Result ℕ HttpFault → Type 0
 EndsChunks limit got place left ended (Ok length) = IsAtEnd place × (length ≡ got) × (ended ≡ false)
 EndsChunks limit got place left ended (Err (BadChunk count)) = IsBad place × (count ≡ got) × (ended ≡ false)

@@ -1,5 +1,6 @@
 -- When an answer is stale, and what the next mount reads.
-use Rattle.std.proofs.Common.{ℕ, ◌≡◌, ◌+◌, ◌<◌, Bool, true, false, ◌||◌, List, [], ◌∷◌, length, Option, Some, refl, sym, ◌∙◌, ap, subst, inl, inr, arith}
+use Rattle.std.proofs.Common.{ℕ, ◌≡◌, ◌+◌, ◌<◌, Bool, true, false, ◌||◌, List, [], ◌∷◌, length, Option, Some, refl, sym}
+use Rattle.std.proofs.Common.{◌∙◌, ap, subst, inl, inr, arith}
 use Rattle.sb_base.specs.declared.settings.Settings.{Settings}
 use Rattle.sb_base.specs.declared.entry.EntryKind.{EntryKind}
 use Rattle.sb_base.specs.declared.entry.EntryKind.TheVariants as kind
@@ -43,7 +44,13 @@ open_get block_size settings delay found start n r known absent get puts owed co
   by (writing k g d o) = absurd (cc)
   by (getting other k g z a b e o d x v) =
       let same : other ≡ fetch = cc in
-      subst (λ f. OpenGet delay settings f puts start content) same (e, o, remains block_size settings delay found start n r r (omega arith) get puts owed content H now d p.1, p.3 z d, x)
+      subst (λ f. OpenGet delay settings f puts start content) same (
+        e,
+        o,
+        remains block_size settings delay found start n r r (omega arith) get puts owed content H now d p.1,
+        p.3 z d,
+        x,
+      )
 
 pub stale_is_young : StaleIsYoung
 stale_is_young geometry settings found start delay past sound block fetch expect answer digest is expects shows has
@@ -52,12 +59,16 @@ stale_is_young geometry settings found start delay past sound block fetch expect
     (last_reading past) _ _ (fetch_of past block) (puts_of past block)
     (unacked_writes geometry.block_size found past block) (value_of start past block) (HeldSince start block past)
     (held_now start block past)
-    (blocks_hold geometry settings found start delay past (sound_is_steady geometry settings found start delay past sound) block) fetch is in
-    by (young_or_only delay settings fetch.place fetch.reading (start block) (value_of start past block) (puts_of past block) expect known.0 known.1 known.2 known.3 (sym known.4 ∙ expects)) where
+    (blocks_hold geometry settings found start delay past
+    (sound_is_steady geometry settings found start delay past sound) block) fetch is in
+    by (young_or_only delay settings fetch.place fetch.reading (start block) (value_of start past block)
+    (puts_of past block) expect known.0 known.1 known.2 known.3 (sym known.4 ∙ expects)) where
       by : YoungOrOnly delay fetch.place fetch.reading (start block) (value_of start past block) (puts_of past block)
           expect → fetch.reading < expect.since + delay.show
       by (inl young) = young
-      by (inr only) = absurd (differs (shown_digest geometry.block_size (visible_contents delay fetch.place fetch.reading (start block) (puts_of past block)) (value_of start past block) digest fetch.verify answer only.0 shows has ∙ sym only.1))
+      by (inr only) = absurd (differs (shown_digest geometry.block_size
+          (visible_contents delay fetch.place fetch.reading (start block) (puts_of past block))
+          (value_of start past block) digest fetch.verify answer only.0 shows has ∙ sym only.1))
 
 -- a block that isn't written keeps its content
 unwritten_after : (block : ℕ) (e : EntryKind) (content : List ℕ) → writes_block block e ≡ false
@@ -87,5 +98,11 @@ next_mount_is_recent geometry settings found start delay past sound next chosen 
     let block = part.block in
     let read = reads_latest geometry.block_size (cached_content geometry.block_size found' past' block)
     (is_known_zero geometry.block_size found' past' block) (value_of next past' block) part bytes
-    (cached_is geometry.block_size settings' delay' found' next past' block (blocks_hold geometry settings' found' next delay' past' (sound_is_steady geometry settings' found' next delay' past' sound') block)) carries in
-    (next block, crash_now start past (sound_survives_crash geometry settings found start delay past sound) block (next block) (chosen block), read ∙ ap (λ c. part_bytes c part) (unwritten next past' block fresh))
+    (cached_is geometry.block_size settings' delay' found' next past' block
+    (blocks_hold geometry settings' found' next delay' past'
+    (sound_is_steady geometry settings' found' next delay' past' sound') block)) carries in (
+      next block,
+      crash_now start past (sound_survives_crash geometry settings found start delay past sound) block
+          (next block) (chosen block),
+      read ∙ ap (λ c. part_bytes c part) (unwritten next past' block fresh),
+    )

@@ -1,5 +1,7 @@
--- The state of each block after a history by the rules and the policy, over a store that is stale only within the delays.
-use Rattle.std.proofs.Common.{ℕ, ◌≡◌, ◌≤◌, ◌⊎◌, Bool, true, false, nat_eq, List, [], ◌∷◌, ◌++◌, length, Contains, Option, Some, None, refl, sym, ◌∙◌, ap, subst, inl, inr, arith}
+-- The state of each block after a history by the rules and the policy, over a store that is stale only within the
+-- delays.
+use Rattle.std.proofs.Common.{ℕ, ◌≡◌, ◌≤◌, ◌⊎◌, Bool, true, false, nat_eq, List, [], ◌∷◌, ◌++◌, length, Contains}
+use Rattle.std.proofs.Common.{Option, Some, None, refl, sym, ◌∙◌, ap, subst, inl, inr, arith}
 use Rattle.std.proofs.lemmas.Bool.{eqb-true}
 use Rattle.std.proofs.lemmas.List.Elements.{Contains-append_right}
 use Rattle.md5.specs.Md5.{md5}
@@ -19,7 +21,8 @@ use Rattle.sb_history.specs.Cache.{Found, cached_content, is_known_zero, zero_sh
 use Rattle.sb_history.specs.Writes.{unacked_writes}
 use Rattle.sb_history.specs.Eviction.{is_unverified}
 use Rattle.sb_history.specs.Window.{expected, answer_digest, CoversDelays}
-use Rattle.sb_history.specs.AccessRules.{last_reading, MayTake, EndsFetch, EndsPut, BeginsGet, BeginsPut, MayFollow, FollowsAccessRules}
+use Rattle.sb_history.specs.AccessRules.{last_reading, MayTake, EndsFetch, EndsPut, BeginsGet, BeginsPut, MayFollow}
+use Rattle.sb_history.specs.AccessRules.{FollowsAccessRules}
 use Rattle.sb_history.specs.CachePolicy.{FetchesUnknown, DropsVictim, PutsDirty, ObeysPolicy, FollowsCachePolicy}
 use Rattle.sb_history.specs.Soundness.{IsUnwindowed}
 use Rattle.sb_history.specs.Soundness.{contents_of, contents_in, IsCollisionFree, IsSoundHistory}
@@ -30,7 +33,8 @@ use Rattle.sb_laws.proofs.Order.{EndedBy, Ordered}
 use Rattle.sb_laws.proofs.Phases.{Holds, NewestOk, Verifies, idle, some_remains}
 use Rattle.sb_laws.proofs.Shown.{IsPlain, only_or_expected, shown_is}
 use Rattle.sb_laws.proofs.Sizes.{overlay_sized, value_sized, write_known}
-use Rattle.sb_laws.proofs.Steps.{known_cases, step_drop, step_get_begin, step_get_end, step_known_zero, step_put_begin, step_put_end, step_same, step_write}
+use Rattle.sb_laws.proofs.Steps.{known_cases, step_drop, step_get_begin, step_get_end, step_known_zero, step_put_begin}
+use Rattle.sb_laws.proofs.Steps.{step_put_end, step_same, step_write}
 use Rattle.sb_laws.proofs.Victims.{dirty_owes, victim_is}
 
 -- the block had this content since a place
@@ -71,7 +75,14 @@ pub sound_is_steady :
     (geometry : Geometry) (settings : Settings) (found : Found) (start : Start) (delays : Delays) (past : List Entry)
     → IsSoundHistory geometry settings found start delays past → IsSteady geometry settings found start delays past
 sound_is_steady geometry settings found start delays past sound =
-    record { sized = sound.sized; covers = sound.covers; rules = sound.rules; policy = sound.policy; stale_within = sound.stale_within; decides = inl sound.collision_free }
+    record {
+      sized = sound.sized;
+      covers = sound.covers;
+      rules = sound.rules;
+      policy = sound.policy;
+      stale_within = sound.stale_within;
+      decides = inl sound.collision_free;
+    }
 
 pub unwindowed_is_steady :
     (geometry : Geometry) (settings : Settings) (found : Found) (start : Start) (past : List Entry)
@@ -101,7 +112,9 @@ module _ (geometry : Geometry) (settings : Settings) (delay : Delays) (covers : 
       → Each (λ c. c ≡ value_of start past block) (possible_of (start block) (puts_of past block))
       → NewestOk (puts_of past block)
       → (answer_content geometry.block_size (found.body block) answer ≡ value_of start past block)
-      × (zero_shown found.marks geometry.block_size (found.body block) answer (is_known_zero geometry.block_size found past block) ≡ true → answer_content geometry.block_size (found.body block) answer ≡ zeros geometry.block_size)
+      × (zero_shown found.marks geometry.block_size (found.body block) answer
+      (is_known_zero geometry.block_size found past block) ≡ true
+      → answer_content geometry.block_size (found.body block) answer ≡ zeros geometry.block_size)
   took answer verify taken free answers ends is fetch here not_zero by order expects verifies has ok =
       let others = contents_of geometry.block_size start found past in
       let new_contents = contents_in start found (kind.GetEnd block answer verify taken) in
@@ -119,15 +132,21 @@ module _ (geometry : Geometry) (settings : Settings) (delay : Delays) (covers : 
         shown_is geometry.block_size delay settings fetch.place fetch.reading (start block) (value_of start past block)
             (puts_of past block) (found.body block) (Contains contents) (subst (Contains contents) one.1 one.2)
             (here_decides free) fetch.expect verify answer
-            (only_or_expected delay settings fetch.place fetch.reading (start block) (value_of start past block) (puts_of past block) covers by order has ok) expects (subst (λ v. Verifies (found.body block) v) (sym may.0) verifies) takes
-            (answer_in geometry.block_size start found others block answer verify taken (zeros_in geometry.block_size start found past)) shows,
+            (only_or_expected delay settings fetch.place fetch.reading (start block) (value_of start past block)
+            (puts_of past block) covers by order has ok) expects
+            (subst (λ v. Verifies (found.body block) v) (sym may.0) verifies) takes
+            (answer_in geometry.block_size start found others block answer verify taken
+            (zeros_in geometry.block_size start found past)) shows,
         zero_shown_is found.marks geometry.block_size (found.body block) answer
             (is_known_zero geometry.block_size found past block) not_zero,
       ) where
         here_decides : DigestsDecide geometry.block_size settings found start
             (record { pass = pass; reading = reading; kind = kind.GetEnd block answer verify taken } ∷ past)
-            → ((a b : List ℕ) → Contains (contents_of geometry.block_size start found (record { pass = pass; reading = reading; kind = kind.GetEnd block answer verify taken } ∷ past)) a
-            → Contains (contents_of geometry.block_size start found (record { pass = pass; reading = reading; kind = kind.GetEnd block answer verify taken } ∷ past)) b → md5 a ≡ md5 b → a ≡ b) ⊎ IsPlain settings (found.body block)
+            → ((a b : List ℕ) → Contains (contents_of geometry.block_size start found
+            (record { pass = pass; reading = reading; kind = kind.GetEnd block answer verify taken } ∷ past)) a
+            → Contains (contents_of geometry.block_size start found
+            (record { pass = pass; reading = reading; kind = kind.GetEnd block answer verify taken } ∷ past)) b
+            → md5 a ≡ md5 b → a ≡ b) ⊎ IsPlain settings (found.body block)
         here_decides (inl free) = inl free
         here_decides (inr plain) = inr (plain block)
 
@@ -144,7 +163,11 @@ module _ (geometry : Geometry) (settings : Settings) (delay : Delays) (covers : 
       (held_now start block past)
       (cached_content geometry.block_size found past block) (is_known_zero geometry.block_size found past block)
       found.marks (nat_eq of block)
-      (λ t. let before = opening past block may.0 in (before.1, before.0, subst (λ b. start b ≡ zeros geometry.block_size) (eqb-true of block t) answers)) p
+      (λ t. let before = opening past block may.0 in (
+        before.1,
+        before.0,
+        subst (λ b. start b ≡ zeros geometry.block_size) (eqb-true of block t) answers,
+      )) p
   step (kind.Write part bytes) may obeys answers free p =
       step_write geometry.block_size settings delay (found.body block) (start block) (length past) (last_reading past)
       reading later (fetch_of past block) (puts_of past block) (unacked_writes geometry.block_size found past block)
@@ -156,8 +179,13 @@ module _ (geometry : Geometry) (settings : Settings) (delay : Delays) (covers : 
       let same = eqb-true part.block block t in
       let is = write_known geometry.block_size (cached_content geometry.block_size found past block)
       (is_known_zero geometry.block_size found past block) (value_of start past block) bytes part.offset sized
-      (subst (λ b. cached_content geometry.block_size found past b ≡ None → is_known_zero geometry.block_size found past b ≡ false → (part.offset ≡ 0) × (length bytes ≡ geometry.block_size)) same may.whole)
-      (known_cases geometry.block_size settings delay (found.body block) (start block) (length past) (last_reading past) reading later (fetch_of past block) (puts_of past block) (unacked_writes geometry.block_size found past block) (value_of start past block) (HeldSince start block past) (held_now start block past)
+      (subst (λ b. cached_content geometry.block_size found past b ≡ None
+      → is_known_zero geometry.block_size found past b ≡ false
+      → (part.offset ≡ 0) × (length bytes ≡ geometry.block_size)) same may.whole)
+      (known_cases geometry.block_size settings delay (found.body block) (start block) (length past)
+      (last_reading past) reading later (fetch_of past block) (puts_of past block)
+      (unacked_writes geometry.block_size found past block) (value_of start past block)
+      (HeldSince start block past) (held_now start block past)
       (cached_content geometry.block_size found past block) (is_known_zero geometry.block_size found past block) p) in (
         subst (λ b. fetch_of past b ≡ None) same may.no_get,
         is,
@@ -173,19 +201,32 @@ module _ (geometry : Geometry) (settings : Settings) (delay : Delays) (covers : 
       (nat_eq of block)
       (λ t.
       let f = subst (λ b. BeginsGet settings past reading b expect) (eqb-true of block t) may in
-      let g = subst (λ b. FetchesUnknown geometry.block_size found past b verify) (eqb-true of block t) obeys in
-      (g.unknown, g.not_zero, f.idle_block.0, f.idle_block.1, f.expects, verifies_found (found.body block) (is_unverified found past block) verify g.verifies)) p
+      let g = subst (λ b. FetchesUnknown geometry.block_size found past b verify) (eqb-true of block t) obeys in (
+        g.unknown,
+        g.not_zero,
+        f.idle_block.0,
+        f.idle_block.1,
+        f.expects,
+        verifies_found (found.body block) (is_unverified found past block) verify g.verifies,
+      )) p
   step (kind.GetEnd of answer verify taken) may obeys answers free p =
       step_get_end geometry.block_size settings delay (found.body block) (start block) (length past) (last_reading past)
       reading later (fetch_of past block) (puts_of past block) (unacked_writes geometry.block_size found past block)
       (value_of start past block) (HeldSince start block past) (held_now start block past)
-      (cached_content geometry.block_size found past block) (is_known_zero geometry.block_size found past block) (zero_shown found.marks geometry.block_size (found.body block) answer (is_known_zero geometry.block_size found past block)) (answer_content geometry.block_size (found.body block) answer) (nat_eq of block) taken
-      (λ t is. not_open_end geometry.block_size (fetch_of past block) pass answer verify taken (subst (λ b. EndsFetch geometry.block_size (fetch_of past b) pass answer verify taken) (eqb-true of block t) may) is)
+      (cached_content geometry.block_size found past block) (is_known_zero geometry.block_size found past block)
+      (zero_shown found.marks geometry.block_size (found.body block) answer
+      (is_known_zero geometry.block_size found past block))
+      (answer_content geometry.block_size (found.body block) answer) (nat_eq of block) taken
+      (λ t is. not_open_end geometry.block_size (fetch_of past block) pass answer verify taken
+      (subst (λ b. EndsFetch geometry.block_size (fetch_of past b) pass answer verify taken)
+      (eqb-true of block t) may) is)
       (λ t is.
       let same = eqb-true of block t in
       took answer verify taken
-      (subst (λ b. DigestsDecide geometry.block_size settings found start (record { pass = pass; reading = reading; kind = kind.GetEnd b answer verify taken } ∷ past)) same free)
-      (subst (λ b. ShowsVisible geometry.block_size (start b) delay (puts_of past b) (fetch_of past b) verify answer) same answers)
+      (subst (λ b. DigestsDecide geometry.block_size settings found start
+      (record { pass = pass; reading = reading; kind = kind.GetEnd b answer verify taken } ∷ past)) same free)
+      (subst (λ b. ShowsVisible geometry.block_size (start b) delay (puts_of past b)
+      (fetch_of past b) verify answer) same answers)
       (subst (λ b. EndsFetch geometry.block_size (fetch_of past b) pass answer verify taken) same may) is) p
   step (kind.PutBegin of content) may obeys answers free p =
       step_put_begin geometry.block_size settings delay (found.body block) (start block) (length past)
@@ -202,14 +243,18 @@ module _ (geometry : Geometry) (settings : Settings) (delay : Delays) (covers : 
       step_put_end geometry.block_size settings delay (found.body block) (start block) (length past) (last_reading past)
       reading later (fetch_of past block) (puts_of past block) (unacked_writes geometry.block_size found past block)
       (value_of start past block) (HeldSince start block past) (held_now start block past)
-      (cached_content geometry.block_size found past block) (is_known_zero geometry.block_size found past block) found.marks (nat_eq of block) ok (λ t. ends_open (puts_of past block) pass (subst (λ b. EndsPut (puts_of past b) pass) (eqb-true of block t) may)) p
+      (cached_content geometry.block_size found past block)
+      (is_known_zero geometry.block_size found past block) found.marks (nat_eq of block) ok
+      (λ t. ends_open (puts_of past block) pass (subst (λ b. EndsPut (puts_of past b) pass)
+      (eqb-true of block t) may)) p
   step (kind.Dropped of) may obeys answers free p =
       step_drop geometry.block_size settings delay (found.body block) (start block) (length past) (last_reading past)
       reading later (fetch_of past block) (puts_of past block) (unacked_writes geometry.block_size found past block)
       (value_of start past block) (HeldSince start block past) (held_now start block past)
       (cached_content geometry.block_size found past block) (is_known_zero geometry.block_size found past block)
       (nat_eq of block)
-      (λ t. victim_is geometry.block_size geometry.blocks found past block (subst (λ b. DropsVictim geometry settings found past reading b) (eqb-true of block t) obeys).is_victim) p
+      (λ t. victim_is geometry.block_size geometry.blocks found past block
+      (subst (λ b. DropsVictim geometry settings found past reading b) (eqb-true of block t) obeys).is_victim) p
   step e may obeys answers free p =
       step_same geometry.block_size settings delay (found.body block) (start block) (length past) (last_reading past)
       reading later (fetch_of past block) (puts_of past block) (unacked_writes geometry.block_size found past block)
@@ -222,7 +267,8 @@ free_before : (block_size : ℕ) (settings : Settings) (start : Start) (found : 
 free_before block_size settings start found entry past (inl free) =
     let new_contents = contents_in start found entry.kind in
     let others = contents_of block_size start found past in
-    inl (λ a b in_a in_b same. free a b (Contains-append_right new_contents others a in_a) (Contains-append_right new_contents others b in_b) same)
+    inl (λ a b in_a in_b same. free a b (Contains-append_right new_contents others a in_a)
+    (Contains-append_right new_contents others b in_b) same)
 free_before block_size settings start found entry past (inr plain) = inr plain
 
 pub steady_before :
@@ -249,4 +295,5 @@ blocks_hold geometry settings found start delay (entry ∷ past) steady block =
     step geometry settings delay steady.covers found start past block entry.pass entry.reading steady.rules.1
     (value_sized geometry settings found start past steady.sized steady.rules.2 block) entry.kind steady.rules.0
     steady.policy.0 steady.stale_within.0 steady.decides
-    (blocks_hold geometry settings found start delay past (steady_before geometry settings found start delay entry past steady) block)
+    (blocks_hold geometry settings found start delay past
+    (steady_before geometry settings found start delay entry past steady) block)

@@ -1,5 +1,6 @@
 -- A write stands before a flush began exactly where the epoch at the write is at most the flush's mark.
-use Rattle.std.proofs.Common.{ℕ, suc, ◌≡◌, ◌≢◌, ◌<◌, ◌≤◌, ◌⊎◌, Bool, true, false, not, if◌then◌else◌, nat_eq, nat_le, min, List, [], ◌∷◌, length, Option, Some, None, refl, ◌∙◌, subst, inl, inr, arith, rules}
+use Rattle.std.proofs.Common.{ℕ, suc, ◌≡◌, ◌≢◌, ◌<◌, ◌≤◌, ◌⊎◌, Bool, true, false, not, if◌then◌else◌, nat_eq, nat_le}
+use Rattle.std.proofs.Common.{min, List, [], ◌∷◌, length, Option, Some, None, refl, ◌∙◌, subst, inl, inr, arith, rules}
 use Rattle.std.proofs.lemmas.Bool.{eqb-true, eqb-false, le-leb, lt-leb}
 use Rattle.std.proofs.lemmas.Bool.Decides.{leb_tells}
 use Rattle.sb_base.specs.declared.geometry.Geometry.{Geometry}
@@ -7,7 +8,8 @@ use Rattle.sb_base.specs.declared.settings.Settings.{Settings}
 use Rattle.sb_base.specs.declared.entry.EntryKind.{EntryKind}
 use Rattle.sb_base.specs.declared.entry.EntryKind.TheVariants as kind
 use Rattle.sb_base.specs.declared.entry.Entry.{Entry}
-use Rattle.sb_history.specs.Flushes.{flush_place, flush_place_after, last_number, flushes_after, flushes_begun, epoch_at}
+use Rattle.sb_history.specs.Flushes.{flush_place, flush_place_after, last_number, flushes_after, flushes_begun}
+use Rattle.sb_history.specs.Flushes.{epoch_at}
 use Rattle.sb_history.specs.Cache.{Found}
 use Rattle.sb_history.specs.AccessRules.{MayFollow, FollowsAccessRules}
 use Rattle.sb_history.specs.Laws.{StampsAreEpochs}

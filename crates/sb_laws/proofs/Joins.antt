@@ -1,5 +1,6 @@
 -- The calls and the ticks of two segments of a history are those of both.
-use Rattle.std.proofs.Common.{ℕ, ◌≡◌, ◌+◌, Bool, true, false, nat_eq, if◌then◌else◌, max, List, [], ◌∷◌, ◌++◌, Option, Some, None, refl, sym, ◌∙◌, ap, subst, inl, inr}
+use Rattle.std.proofs.Common.{ℕ, ◌≡◌, ◌+◌, Bool, true, false, nat_eq, if◌then◌else◌, max, List, [], ◌∷◌, ◌++◌, Option}
+use Rattle.std.proofs.Common.{Some, None, refl, sym, ◌∙◌, ap, subst, inl, inr}
 use Rattle.std.proofs.lemmas.Bool.{eq-eqb, ne_eqb}
 use Rattle.sb_base.specs.declared.geometry.Geometry.{Geometry}
 use Rattle.sb_base.specs.declared.settings.Settings.{Settings}
@@ -140,8 +141,17 @@ pub plain_trace_holds : PlainTraceHolds
 plain_trace_holds geometry settings caller before [] next ticks of_pass none one = one
 plain_trace_holds geometry settings caller before (entry ∷ entries) next ticks of_pass none one =
     true_ticked (nat_eq entry.pass caller.pass) geometry settings caller.alone next (entries ++ before) entry ticks
-    (ClockTrace geometry settings caller before entries) (eq-eqb entry.pass caller.pass of_pass.0)
-    (one.0, None, [], one.1, one.2, one.3, none.0 one.0, refl, plain_trace_holds geometry settings caller before entries (Some one.0) one.1 of_pass.1 none.1 one.4)
+    (ClockTrace geometry settings caller before entries) (eq-eqb entry.pass caller.pass of_pass.0) (
+      one.0,
+      None,
+      [],
+      one.1,
+      one.2,
+      one.3,
+      none.0 one.0,
+      refl,
+      plain_trace_holds geometry settings caller before entries (Some one.0) one.1 of_pass.1 none.1 one.4,
+    )
 
 pub entry_is_ticked : EntryIsTicked
 entry_is_ticked geometry settings caller before entries entry next pause taken after ticks of_pass reading pauses paused

@@ -1,5 +1,7 @@
 -- The laws: reads are those of registers, flushes are durable, and what a crash leaves was there since the last flush.
-use Rattle.std.proofs.Common.{ℕ, suc, ◌≡◌, ◌<◌, ◌≤◌, ◌⊎◌, Bool, true, false, ◌&&◌, if◌then◌else◌, nat_eq, nat_le, max, List, [], ◌∷◌, length, Contains, unwrap_or, Option, Some, None, refl, sym, subst, inl, inr, arith}
+use Rattle.std.proofs.Common.{ℕ, suc, ◌≡◌, ◌<◌, ◌≤◌, ◌⊎◌, Bool, true, false, ◌&&◌, if◌then◌else◌, nat_eq, nat_le, max}
+use Rattle.std.proofs.Common.{List, [], ◌∷◌, length, Contains, unwrap_or, Option, Some, None, refl, sym, subst, inl}
+use Rattle.std.proofs.Common.{inr, arith}
 use Rattle.std.specs.List.{list_all}
 use Rattle.std.proofs.lemmas.Bool.{eqb-true, leb-true, le-leb}
 use Rattle.std.proofs.lemmas.Bool.Decides.{leb_tells}
@@ -19,8 +21,10 @@ use Rattle.sb_history.specs.Durability.{possible_of, FlushIsDurable, FlushesAreD
 use Rattle.sb_history.specs.Cache.{Found, cached_content, is_known_zero}
 use Rattle.sb_history.specs.Writes.{is_nil, unacked_writes, is_unstamped_by}
 use Rattle.sb_history.specs.AccessRules.{last_reading, NoneStamped, CarriesPart, EndsPut, BeginsPut, MayFollow}
-use Rattle.sb_history.specs.Laws.{SoundIsLegal, SoundFlushes, SoundSurvivesCrash, UnwindowedIsLegal, UnwindowedFlushes, UnwindowedSurvivesCrash}
-use Rattle.sb_laws.proofs.Blocks.{HeldSince, HoldsAt, IsSteady, blocks_hold, held_now, sound_is_steady, steady_before, unwindowed_is_steady}
+use Rattle.sb_history.specs.Laws.{SoundIsLegal, SoundFlushes, SoundSurvivesCrash, UnwindowedIsLegal, UnwindowedFlushes}
+use Rattle.sb_history.specs.Laws.{UnwindowedSurvivesCrash}
+use Rattle.sb_laws.proofs.Blocks.{HeldSince, HoldsAt, IsSteady, blocks_hold, held_now, sound_is_steady, steady_before}
+use Rattle.sb_laws.proofs.Blocks.{unwindowed_is_steady}
 use Rattle.sb_laws.proofs.Held.{Each, Each-map, From, From-nil, Had}
 use Rattle.sb_laws.proofs.Shown.{contained}
 use Rattle.sb_laws.proofs.Steps.{known_cases}
@@ -29,7 +33,9 @@ use Rattle.sb_laws.proofs.Steps.{known_cases}
 pub cached_is :
     (block_size : ℕ) (settings : Settings) (delay : Delays) (found : Found) (start : Start) (past : List Entry)
     (block : ℕ) → HoldsAt block_size settings delay found start past block
-    → (cached_content block_size found past block ≡ Some (value_of start past block)) ⊎ ((cached_content block_size found past block ≡ None) × (is_known_zero block_size found past block ≡ true → value_of start past block ≡ zeros block_size))
+    → (cached_content block_size found past block ≡ Some (value_of start past block))
+    ⊎ ((cached_content block_size found past block ≡ None)
+    × (is_known_zero block_size found past block ≡ true → value_of start past block ≡ zeros block_size))
 cached_is block_size settings delay found start past block holds =
     known_cases block_size settings delay (found.body block) (start block) (length past) (last_reading past)
     (last_reading past) (omega arith) (fetch_of past block) (puts_of past block)
@@ -146,7 +152,8 @@ done_since block_size settings delay found start past mark place below block hol
 only_held : (start : Start) (past : List Entry) (place : ℕ) → ((block : ℕ) → EachSince start place past block)
     → OnlyHeldSince start (Some place) past
 only_held start past place each block content remains =
-    held_contained start block place past content (contained (HeldSince start block past place) content (possible_of (start block) (puts_of past block)) remains.0 (each block) remains.1 remains.2)
+    held_contained start block place past content (contained (HeldSince start block past place) content
+    (possible_of (start block) (puts_of past block)) remains.0 (each block) remains.1 remains.2)
 
 flush_holds :
     (geometry : Geometry) (settings : Settings) (delay : Delays) (found : Found) (start : Start) (past : List Entry)
@@ -155,7 +162,8 @@ flush_holds :
     → NoneStamped geometry.block_size found past mark place → OnlyHeldSince start place past
 flush_holds geometry settings delay found start past mark None below holds none = none
 flush_holds geometry settings delay found start past mark (Some place) below holds none =
-    only_held start past place (λ block. done_since geometry.block_size settings delay found start past mark place below block (holds block) (none block))
+    only_held start past place (λ block. done_since geometry.block_size settings delay found start past mark place
+    below block (holds block) (none block))
 
 flush_is_durable :
     (geometry : Geometry) (settings : Settings) (delay : Delays) (found : Found) (start : Start) (past : List Entry)
@@ -212,17 +220,29 @@ keeps geometry settings delay found start past pass reading place block (kind.Pu
     let entry : Entry = record { pass = pass; reading = reading; kind = kind.PutBegin of content } in
     let lifted = Each-map (HeldSince start block past place) (HeldSince start block (entry ∷ past) place)
     (possible_of (start block) (puts_of past block)) (λ c held. inr (below, held)) each in
-    either_possible (HeldSince start block (entry ∷ past) place) (start block) (nat_eq of block) (record { content = content; pass = pass; place = length past; reading = reading; ending = None } ∷ puts_of past block) (puts_of past block)
+    either_possible (HeldSince start block (entry ∷ past) place) (start block) (nat_eq of block)
+    (record {
+      content = content;
+      pass = pass;
+      place = length past;
+      reading = reading;
+      ending = None;
+    } ∷ puts_of past block) (puts_of past block)
     (λ t.
-    let begins = subst (λ b. BeginsPut geometry settings found past reading b content) (eqb-true of block t) may in
-    (inl (put_is_value (cached_content geometry.block_size found past block) content (value_of start past block) _ (cached_is geometry.block_size settings delay found start past block holds) begins.cached), lifted)) lifted
+    let begins = subst (λ b. BeginsPut geometry settings found past reading b content) (eqb-true of block t) may in (
+      inl (put_is_value (cached_content geometry.block_size found past block) content (value_of start past block) _
+          (cached_is geometry.block_size settings delay found start past block holds) begins.cached),
+      lifted,
+    )) lifted
 keeps geometry settings delay found start past pass reading place block (kind.PutEnd of ok) below holds may each =
     let entry : Entry = record { pass = pass; reading = reading; kind = kind.PutEnd of ok } in
     let lifted = Each-map (HeldSince start block past place) (HeldSince start block (entry ∷ past) place)
     (possible_of (start block) (puts_of past block)) (λ c held. inr (below, held)) each in
     either_possible (HeldSince start block (entry ∷ past) place) (start block) (nat_eq of block)
     (ended (record { place = length past; reading = reading; ok = ok }) (puts_of past block)) (puts_of past block)
-    (λ t. acked_is_possible (HeldSince start block (entry ∷ past) place) (start block) (record { place = length past; reading = reading; ok = ok }) pass (puts_of past block) (subst (λ b. EndsPut (puts_of past b) pass) (eqb-true of block t) may) lifted) lifted
+    (λ t. acked_is_possible (HeldSince start block (entry ∷ past) place) (start block)
+    (record { place = length past; reading = reading; ok = ok }) pass (puts_of past block)
+    (subst (λ b. EndsPut (puts_of past b) pass) (eqb-true of block t) may) lifted) lifted
 keeps geometry settings delay found start past pass reading place block e below holds may each =
     let entry : Entry = record { pass = pass; reading = reading; kind = e } in
     Each-map (HeldSince start block past place) (HeldSince start block (entry ∷ past) place)
@@ -254,7 +274,8 @@ since_flush :
     delay found start past block
     → MayFollow geometry settings found past pass reading e → EachSince start before past block
     → EachSince start (flushed_place_after past e before) past block × (flushed_place_after past e before ≤ length past)
-since_flush geometry settings delay found start past pass reading before block (kind.FlushDone mark) after holds may each =
+since_flush geometry settings delay found start past pass reading before block
+    (kind.FlushDone mark) after holds may each =
     done_or geometry settings delay found start past mark before block (flush_place past mark)
     (flush_place_below past mark) after holds may each
 since_flush geometry settings delay found start past pass reading before block e after holds may each = (each, after)
@@ -269,8 +290,12 @@ crash_holds geometry settings found start delay (entry ∷ past) steady block =
     let before = crash_holds geometry settings found start delay past steady' block in
     let holds = blocks_hold geometry settings found start delay past steady' block in
     let after = since_flush geometry settings delay found start past entry.pass entry.reading (flushed_place past) block
-    entry.kind before.1 holds steady.rules.0 before.0 in
-    (keeps geometry settings delay found start past entry.pass entry.reading (flushed_place_after past entry.kind (flushed_place past)) block entry.kind after.1 holds steady.rules.0 after.0, omega (arith, after.1))
+    entry.kind before.1 holds steady.rules.0 before.0 in (
+      keeps geometry settings delay found start past entry.pass entry.reading
+          (flushed_place_after past entry.kind (flushed_place past)) block entry.kind after.1 holds steady.rules.0
+          after.0,
+      omega (arith, after.1),
+    )
 
 pub is_crash_durable :
     (geometry : Geometry) (settings : Settings) (found : Found) (start : Start) (delay : Delays) (past : List Entry)

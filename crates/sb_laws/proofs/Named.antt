@@ -1,5 +1,6 @@
 -- What is put and shown is among the contents that a history names.
-use Rattle.std.proofs.Common.{ℕ, Bool, true, false, if◌then◌else◌, nat_eq, List, [], ◌∷◌, ◌++◌, length, Contains, unwrap_or, Option, Some, None, refl, arith}
+use Rattle.std.proofs.Common.{ℕ, Bool, true, false, if◌then◌else◌, nat_eq, List, [], ◌∷◌, ◌++◌, length, Contains}
+use Rattle.std.proofs.Common.{unwrap_or, Option, Some, None, refl, arith}
 use Rattle.std.proofs.lemmas.List.Elements.{Contains-append_right}
 use Rattle.sb_base.specs.declared.entry.Shown.{Shown}
 use Rattle.sb_base.specs.declared.entry.Shown.TheVariants as shown
@@ -56,7 +57,10 @@ puts_in block_size start found [] block = tt
 puts_in block_size start found (entry ∷ past) block =
     puts_after_in (Contains (contents_of block_size start found (entry ∷ past))) block entry.pass (length past)
     entry.reading entry.kind (puts_of past block) (put_in block_size start found past entry.kind)
-    (Each-put-map (Contains (contents_of block_size start found past)) (Contains (contents_of block_size start found (entry ∷ past))) (puts_of past block) (Contains-append_right (contents_in start found entry.kind) (contents_of block_size start found past)) (puts_in block_size start found past block))
+    (Each-put-map (Contains (contents_of block_size start found past))
+    (Contains (contents_of block_size start found (entry ∷ past))) (puts_of past block)
+    (Contains-append_right (contents_in start found entry.kind) (contents_of block_size start found past))
+    (puts_in block_size start found past block))
 
 pub zeros_in : (block_size : ℕ) (start : Start) (found : Found) (past : List Entry)
     → Contains (contents_of block_size start found past) (zeros block_size)

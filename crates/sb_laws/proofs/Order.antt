@@ -1,5 +1,6 @@
 -- The puts of a block in their order, each superseding those before it.
-use Rattle.std.proofs.Common.{ℕ, suc, ◌≡◌, ◌+◌, ◌<◌, ◌≤◌, true, false, List, [], ◌∷◌, Option, Some, None, refl, ◌∙◌, arith}
+use Rattle.std.proofs.Common.{ℕ, suc, ◌≡◌, ◌+◌, ◌<◌, ◌≤◌, true, false, List, [], ◌∷◌, Option, Some, None, refl, ◌∙◌}
+use Rattle.std.proofs.Common.{arith}
 use Rattle.std.proofs.lemmas.Bool.{le-leb}
 use Rattle.sb_history.specs.Puts.{Put, Ending, newest_is_open}
 use Rattle.sb_history.specs.Visibility.{Delays, supersedes, begins_after}
@@ -88,8 +89,11 @@ pub new_ordered :
     → new.reading ≡ s → new.ending ≡ None → EndedBy n r puts → Ordered delay puts → SpacedFrom spacing s puts
     → Ordered delay (new ∷ puts)
 new_ordered delay spacing n r s new [] cover later a b c by order spaced = (tt, tt, rw c tt)
-new_ordered delay spacing n r s new (put ∷ puts) cover later a b c by order spaced =
-    (EndedBy-later n new.place r new.reading (put ∷ puts) (omega (arith, a)) (omega (arith, b, later)) by, new_ending delay spacing n r s new put puts put.ending cover a b by.0 by.1 order.0 order.2 spaced, rw c tt)
+new_ordered delay spacing n r s new (put ∷ puts) cover later a b c by order spaced = (
+  EndedBy-later n new.place r new.reading (put ∷ puts) (omega (arith, a)) (omega (arith, b, later)) by,
+  new_ending delay spacing n r s new put puts put.ending cover a b by.0 by.1 order.0 order.2 spaced,
+  rw c tt,
+)
 
 still_ending : (delay : Delays) (a b : Put) (ending : Option Ending) → a.place ≡ b.place → a.reading ≡ b.reading
     → begins_after delay.order b ending ≡ begins_after delay.order a ending

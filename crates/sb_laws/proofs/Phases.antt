@@ -1,5 +1,6 @@
 -- The phases of a block, by what the history says of it.
-use Rattle.std.proofs.Common.{ℕ, ◌≡◌, ◌<◌, ◌≤◌, Bool, true, false, nat_le, List, [], ◌∷◌, length, filter, Option, Some, None}
+use Rattle.std.proofs.Common.{ℕ, ◌≡◌, ◌<◌, ◌≤◌, Bool, true, false, nat_le, List, [], ◌∷◌, length, filter, Option, Some}
+use Rattle.std.proofs.Common.{None}
 use Rattle.md5.specs.Md5.{md5}
 use Rattle.sb_base.specs.declared.settings.Settings.{Settings}
 use Rattle.sb_history.specs.Contents.{zeros}

@@ -1,5 +1,6 @@
 -- A store that has settled shows what it may come to hold.
-use Rattle.std.proofs.Common.{ℕ, suc, ◌≡◌, ◌+◌, ◌<◌, ◌≤◌, Bool, true, false, not, ◌&&◌, ◌||◌, if◌then◌else◌, nat_eq, List, [], ◌∷◌, ◌++◌, length, filter, map, Contains, Option, Some, None, cond, refl, arith}
+use Rattle.std.proofs.Common.{ℕ, suc, ◌≡◌, ◌+◌, ◌<◌, ◌≤◌, Bool, true, false, not, ◌&&◌, ◌||◌, if◌then◌else◌, nat_eq}
+use Rattle.std.proofs.Common.{List, [], ◌∷◌, ◌++◌, length, filter, map, Contains, Option, Some, None, cond, refl, arith}
 use Rattle.std.specs.List.{list_any}
 use Rattle.std.proofs.lemmas.Bool.{le-leb}
 use Rattle.sb_base.specs.declared.geometry.Geometry.{Geometry}
@@ -9,7 +10,8 @@ use Rattle.sb_base.specs.declared.entry.EntryKind.TheVariants as kind
 use Rattle.sb_base.specs.declared.entry.Entry.{Entry}
 use Rattle.sb_history.specs.Contents.{Start}
 use Rattle.sb_history.specs.Puts.{Put, Ending, puts_of, puts_after, ended, is_acknowledged}
-use Rattle.sb_history.specs.Visibility.{Delays, supersedes, is_settled, is_settled_ending, is_superseded, visible_contents}
+use Rattle.sb_history.specs.Visibility.{Delays, supersedes, is_settled, is_settled_ending, is_superseded}
+use Rattle.sb_history.specs.Visibility.{visible_contents}
 use Rattle.sb_history.specs.Durability.{possible_of}
 use Rattle.sb_history.specs.Cache.{Found}
 use Rattle.sb_history.specs.AccessRules.{last_reading}
@@ -64,7 +66,8 @@ newest_chains : (block_size : ℕ) (settings : Settings) (delay : Delays) (found
     → Phase block_size settings delay found n r known absent get puts owed content H → NewestChains delay n r puts
 newest_chains block_size settings delay found n r known absent get puts owed content H (idle k g e o d) =
     closed_chains delay n r puts e o
-newest_chains block_size settings delay found n r known absent get puts owed content H (getting fetch k g z a b e o d x v) =
+newest_chains block_size settings delay found n r known absent get puts owed content H
+    (getting fetch k g z a b e o d x v) =
     closed_chains delay n r puts (EndedBy-later fetch.place n fetch.reading r puts a b e) o
 newest_chains block_size settings delay found n r known absent get puts owed content H (held k g e o) =
     closed_chains delay n r puts e o
@@ -118,8 +121,10 @@ chains geometry settings found start delay (entry ∷ past) steady block =
     let now = Chain-later delay (length past) (suc (length past)) (last_reading past) entry.reading (puts_of past block)
     (omega arith) steady.rules.1 before in
     chain_of delay (suc (length past)) entry.reading (puts_of (entry ∷ past) block)
-    (newest_chains geometry.block_size settings delay (found.body block) _ _ _ _ _ _ _ _ _ (blocks_hold geometry settings found start delay (entry ∷ past) steady block).0)
-    (older_after delay (suc (length past)) entry.reading block entry.pass (length past) entry.reading entry.kind (puts_of past block) now)
+    (newest_chains geometry.block_size settings delay (found.body block) _ _ _ _ _ _ _ _ _
+    (blocks_hold geometry settings found start delay (entry ∷ past) steady block).0)
+    (older_after delay (suc (length past)) entry.reading block entry.pass (length past) entry.reading entry.kind
+    (puts_of past block) now)
 
 -- what a settled store shows is among what it may come to hold
 settled_of : (delay : Delays) (n m r : ℕ) (ending : Option Ending) → m + delay.show ≤ r → EndedNow n m ending
@@ -168,7 +173,8 @@ shown_possible delay n m r start all (put ∷ puts) later chain is_in =
     let rest = filter (λ q. not (is_superseded delay n r all q)) puts in
     one_more (λ c. Contains (possible_of start (put ∷ puts)) c) (not (is_superseded delay n r all put)) put rest
     (0, omega arith, refl)
-    (by (is_acknowledged put.ending) refl (shown_possible delay n m r start all puts later chain.2 (λ p any. is_in p (or_true (p put) (list_any p puts) any)))) where
+    (by (is_acknowledged put.ending) refl (shown_possible delay n m r start all puts later chain.2
+    (λ p any. is_in p (or_true (p put) (list_any p puts) any)))) where
       by : (b : Bool) → is_acknowledged put.ending ≡ b → Each (λ c. Contains (possible_of start puts) c)
           (map (λ (q : Put). q.content) (filter (λ q. not (is_superseded delay n r all q)) puts))
           → Each (λ c. Contains (possible_of start (put ∷ puts)) c)
@@ -209,6 +215,10 @@ settled_is_possible geometry settings found start delay past sound block reading
     (sound_is_steady geometry settings found start delay past sound) block in
     contained (λ c. Contains (possible_of (start block) puts) c) content
     (visible_contents delay (length past) reading (start block) puts) shown.0
-    (Each-append (λ c. Contains (possible_of (start block) puts) c) _ _ (shown_possible delay (length past) (last_reading past) reading (start block) puts puts later chain (λ p any. any))
-    (start_if (λ c. Contains (possible_of (start block) puts) c) (start block) (list_any (is_settled delay.show (length past) reading) puts) (λ none. start_possible delay (length past) (last_reading past) reading (start block) puts later chain none)))
+    (Each-append (λ c. Contains (possible_of (start block) puts) c) _ _
+    (shown_possible delay (length past) (last_reading past) reading (start block) puts puts later chain
+    (λ p any. any))
+    (start_if (λ c. Contains (possible_of (start block) puts) c) (start block)
+    (list_any (is_settled delay.show (length past) reading) puts)
+    (λ none. start_possible delay (length past) (last_reading past) reading (start block) puts later chain none)))
     shown.1 shown.2

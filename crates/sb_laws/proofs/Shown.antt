@@ -1,5 +1,7 @@
 -- What a GET that is taken showed is the content of its block.
-use Rattle.std.proofs.Common.{ℕ, suc, ◌≡◌, ◌+◌, ◌<◌, ◌≤◌, ◌⊎◌, Bool, true, false, not, ◌&&◌, if◌then◌else◌, nat_eq, nat_lt, nat_le, List, [], ◌∷◌, ◌++◌, length, filter, map, unwrap_or, Option, Some, None, zero, cond, slice_index_or, refl, sym, ◌∙◌, ap, subst, inl, inr, arith}
+use Rattle.std.proofs.Common.{ℕ, suc, ◌≡◌, ◌+◌, ◌<◌, ◌≤◌, ◌⊎◌, Bool, true, false, not, ◌&&◌, if◌then◌else◌, nat_eq}
+use Rattle.std.proofs.Common.{nat_lt, nat_le, List, [], ◌∷◌, ◌++◌, length, filter, map, unwrap_or, Option, Some, None}
+use Rattle.std.proofs.Common.{zero, cond, slice_index_or, refl, sym, ◌∙◌, ap, subst, inl, inr, arith}
 use Rattle.std.proofs.lemmas.Bool.{eqb-true, eqb-false, le-leb}
 use Rattle.std.proofs.lemmas.Bool.Decides.{leb_tells}
 use Rattle.md5.specs.Md5.{md5}
@@ -130,7 +132,10 @@ young_or_only_ending delay settings n r start content put puts expect (Some endi
       by_window true expects (inl old) =
           let is_expect : record { digest = md5 put.content; since = ending.reading } ≡ expect = cc in
           let place = le-leb (suc ending.place) n (omega (arith, by.0)) in
-          inr (settled_shows delay n r start content put puts (rw (is, ok, place, old.0)) all same, subst (λ (e : Expect). e.digest ≡ md5 content) is_expect (ap md5 same))
+          inr (
+            settled_shows delay n r start content put puts (rw (is, ok, place, old.0)) all same,
+            subst (λ (e : Expect). e.digest ≡ md5 content) is_expect (ap md5 same),
+          )
 
 pub young_or_only :
     (delay : Delays) (settings : Settings) (n r : ℕ) (start content : List ℕ) (puts : List Put) (expect : Expect)
@@ -245,7 +250,11 @@ module _ (block_size : ℕ) (delay : Delays) (settings : Settings) (n r : ℕ) (
 
 pub checked_settings_cover : CheckedSettingsCover
 checked_settings_cover settings blocks delay checked covers =
-    record { spacing = covers; window = window (nat_eq settings.md5_time 0) refl; off = λ none. let zero_spacing = (checked.times none).0 in omega (arith, zero_spacing, covers) } where
+    record {
+      spacing = covers;
+      window = window (nat_eq settings.md5_time 0) refl;
+      off = λ none. let zero_spacing = (checked.times none).0 in omega (arith, zero_spacing, covers);
+    } where
       window : (b : Bool) → nat_eq settings.md5_time 0 ≡ b → (settings.md5_time ≡ 0) ⊎ (delay ≤ settings.md5_time)
       window true is = inl (eqb-true settings.md5_time 0 is)
       window false is =

@@ -1,5 +1,7 @@
 -- Contents keep the length of a block.
-use Rattle.std.proofs.Common.{ℕ, ◌≡◌, ◌+◌, ◌≤◌, ◌⊎◌, Bool, true, false, if◌then◌else◌, nat_eq, List, [], ◌∷◌, length, unwrap_or, Option, Some, None, length-append, length-take, length-drop, refl, inl, inr, arith, rules}
+use Rattle.std.proofs.Common.{ℕ, ◌≡◌, ◌+◌, ◌≤◌, ◌⊎◌, Bool, true, false, if◌then◌else◌, nat_eq, List, [], ◌∷◌, length}
+use Rattle.std.proofs.Common.{unwrap_or, Option, Some, None, length-append, length-take, length-drop, refl, inl, inr}
+use Rattle.std.proofs.Common.{arith, rules}
 use Rattle.std.proofs.lemmas.List.{drop_all, length-replicate}
 use Rattle.sb_base.specs.declared.settings.Settings.{Settings}
 use Rattle.sb_base.specs.declared.entry.EntryKind.{EntryKind}

@@ -1,5 +1,6 @@
 -- A store that is stale within smaller delays is so within larger ones.
-use Rattle.std.proofs.Common.{ℕ, suc, ◌≡◌, ◌+◌, ◌≤◌, Bool, true, false, not, ◌&&◌, ◌||◌, if◌then◌else◌, nat_le, nat_lt, List, [], ◌∷◌, ◌++◌, filter, map, Contains, Option, Some, None, cond, refl, arith}
+use Rattle.std.proofs.Common.{ℕ, suc, ◌≡◌, ◌+◌, ◌≤◌, Bool, true, false, not, ◌&&◌, ◌||◌, if◌then◌else◌, nat_le, nat_lt}
+use Rattle.std.proofs.Common.{List, [], ◌∷◌, ◌++◌, filter, map, Contains, Option, Some, None, cond, refl, arith}
 use Rattle.std.specs.List.{list_any}
 use Rattle.std.proofs.lemmas.Bool.{leb-true, le-leb}
 use Rattle.std.proofs.lemmas.List.Elements.{Contains-append_left, Contains-append_right}
@@ -11,7 +12,8 @@ use Rattle.sb_base.specs.declared.entry.Entry.{Entry}
 use Rattle.sb_history.specs.Contents.{Start, zeros}
 use Rattle.sb_history.specs.Puts.{Put, Ending, puts_of}
 use Rattle.sb_history.specs.Gets.{Fetch, fetch_of}
-use Rattle.sb_history.specs.Visibility.{Delays, is_settled, is_settled_ending, supersedes, begins_after, is_superseded, visible_contents, ShowsOneOf, ShowsVisible, AnswersWithin}
+use Rattle.sb_history.specs.Visibility.{Delays, is_settled, is_settled_ending, supersedes, begins_after, is_superseded}
+use Rattle.sb_history.specs.Visibility.{visible_contents, ShowsOneOf, ShowsVisible, AnswersWithin}
 use Rattle.sb_history.specs.Laws.{SmallerDelaysAreWithin}
 use Rattle.sb_laws.proofs.Held.{Each, Each-map}
 use Rattle.sb_laws.proofs.Shown.{contained}
@@ -86,7 +88,14 @@ module _ (small large : Delays) (order : small.order ≤ large.order) (show : sm
         (map (λ (q : Put). q.content) (filter f puts))
         → Each (λ c. Contains (map (λ (q : Put). q.content) (cond b (put ∷ filter g puts) (filter g puts))) c)
         (map (λ (q : Put). q.content) (cond a (put ∷ filter f puts) (filter f puts)))
-    by true true is others = ((0, omega arith, refl), Each-map (λ c. Contains (map (λ (q : Put). q.content) (filter g puts)) c) (λ c. Contains (put.content ∷ map (λ (q : Put). q.content) (filter g puts)) c) (map (λ (q : Put). q.content) (filter f puts)) (λ c at. contains_cons c put.content (map (λ (q : Put). q.content) (filter g puts)) at) others)
+    by true true is others = (
+      (0, omega arith, refl),
+      Each-map
+          (λ c. Contains (map (λ (q : Put). q.content) (filter g puts)) c)
+          (λ c. Contains (put.content ∷ map (λ (q : Put). q.content) (filter g puts)) c)
+          (map (λ (q : Put). q.content) (filter f puts)) (λ c at. contains_cons c put.content
+          (map (λ (q : Put). q.content) (filter g puts)) at) others,
+    )
     by true false is others = let wrong = is refl in absurd (cc)
     by false true is others = Each-map (λ c. Contains (map (λ (q : Put). q.content) (filter g puts)) c)
         (λ c. Contains (put.content ∷ map (λ (q : Put). q.content) (filter g puts)) c)
@@ -113,12 +122,18 @@ module _ (small large : Delays) (order : small.order ≤ large.order) (show : sm
       let old_many = if list_any (is_settled large.show place reading) puts then [] else start ∷ [] in
       let contents = λ (puts : List Put). map (λ (q : Put). q.content) puts in
       Each-append (λ c. Contains (visible_contents large place reading start puts) c) (contents few) old_few
-      (Each-map (λ c. Contains (contents many) c) (λ c. Contains (contents many ++ old_many) c) (contents few) (λ c at. Contains-append_left (contents many) old_many c at)
-      (filter_more (λ put. not (is_superseded small place reading puts put)) (λ put. not (is_superseded large place reading puts put)) puts
-      (λ put is. not_more (is_superseded small place reading puts put) (is_superseded large place reading puts put) (superseded_smaller puts put) is)))
-      (Each-map (λ c. Contains old_many c) (λ c. Contains (contents many ++ old_many) c) old_few (λ c at. Contains-append_right (contents many) old_many c at)
-      (start_more (list_any (is_settled small.show place reading) puts) (list_any (is_settled large.show place reading) puts)
-      (any_more (is_settled large.show place reading) (is_settled small.show place reading) puts (λ put is. settled_smaller small.show large.show place reading put.ending show is))))
+      (Each-map (λ c. Contains (contents many) c) (λ c. Contains (contents many ++ old_many) c) (contents few)
+      (λ c at. Contains-append_left (contents many) old_many c at)
+      (filter_more (λ put. not (is_superseded small place reading puts put))
+      (λ put. not (is_superseded large place reading puts put)) puts
+      (λ put is. not_more (is_superseded small place reading puts put) (is_superseded large place reading puts put)
+      (superseded_smaller puts put) is)))
+      (Each-map (λ c. Contains old_many c) (λ c. Contains (contents many ++ old_many) c) old_few
+      (λ c at. Contains-append_right (contents many) old_many c at)
+      (start_more (list_any (is_settled small.show place reading) puts)
+      (list_any (is_settled large.show place reading) puts)
+      (any_more (is_settled large.show place reading) (is_settled small.show place reading) puts
+      (λ put is. settled_smaller small.show large.show place reading put.ending show is))))
 
   shows_more : (block_size : ℕ) (puts : List Put) (verify : Option (List ℕ)) (answer : Shown)
       → ShowsOneOf block_size (visible_contents small place reading start puts) verify answer
@@ -130,8 +145,12 @@ module _ (small large : Delays) (order : small.order ≤ large.order) (show : sm
       contained (λ c. Contains (visible_contents large place reading start puts) c) bytes
       (visible_contents small place reading start puts) at.0 (visible_more puts) at.1 at.2
   shows_more block_size puts None shown.Same at = at
-  shows_more block_size puts (Some digest) shown.Same at =
-      (at.0, contained (λ c. Contains (visible_contents large place reading start puts) c) at.0 (visible_contents small place reading start puts) at.1.0 (visible_more puts) at.1.1 at.1.2, at.2)
+  shows_more block_size puts (Some digest) shown.Same at = (
+    at.0,
+    contained (λ c. Contains (visible_contents large place reading start puts) c) at.0
+        (visible_contents small place reading start puts) at.1.0 (visible_more puts) at.1.1 at.1.2,
+    at.2,
+  )
   shows_more block_size puts verify shown.Failed at = tt
 
 answer_more : (block_size : ℕ) (start : List ℕ) (small large : Delays) (puts : List Put) (fetch : Option Fetch)
@@ -151,5 +170,7 @@ event_more block_size start small large past e order show at = tt
 
 pub smaller_delays_are_within : SmallerDelaysAreWithin
 smaller_delays_are_within block_size start small large [] order show within = tt
-smaller_delays_are_within block_size start small large (entry ∷ past) order show within =
-    (event_more block_size start small large past entry.kind order show within.0, smaller_delays_are_within block_size start small large past order show within.1)
+smaller_delays_are_within block_size start small large (entry ∷ past) order show within = (
+  event_more block_size start small large past entry.kind order show within.0,
+  smaller_delays_are_within block_size start small large past order show within.1,
+)

@@ -1,5 +1,6 @@
 -- Within which delays the worked histories are stale.
-use Rattle.std.proofs.Common.{ℕ, zero, suc, ◌≡◌, ◌+◌, ◌*◌, ◌<◌, ◌≤◌, Bool, true, false, ◌&&◌, nat_lt, nat_le, Contains, refl, arith}
+use Rattle.std.proofs.Common.{ℕ, zero, suc, ◌≡◌, ◌+◌, ◌*◌, ◌<◌, ◌≤◌, Bool, true, false, ◌&&◌, nat_lt, nat_le, Contains}
+use Rattle.std.proofs.Common.{refl, arith}
 use Rattle.std.proofs.lemmas.Bool.{lt-leb}
 use Rattle.sb_history.specs.Puts.{puts_of}
 use Rattle.sb_history.specs.Visibility.{visible_contents, IsStaleWithin}
@@ -22,8 +23,10 @@ still_visible place reading before =
 
 start_shown_within : (n : ℕ) → n ≤ 51 → IsStaleWithin 1 a_at_0 (both 5001) (start_shown n)
 start_shown_within zero most = (tt, (tt, ((0, omega arith, refl), (tt, (tt, (tt, (tt, (tt, (tt, (tt, tt))))))))))
-start_shown_within (suc n) most =
-    (rw (puts_stay n) (still_visible _ (1000 + n * 100) (omega (arith, most))), (tt, start_shown_within n (omega (arith, most))))
+start_shown_within (suc n) most = (
+  rw (puts_stay n) (still_visible _ (1000 + n * 100) (omega (arith, most))),
+  (tt, start_shown_within n (omega (arith, most))),
+)
 
 pub shown_for_good_within : IsStaleWithin 1 a_at_0 (both 5001) shown_for_good
 shown_for_good_within = start_shown_within 51 (omega arith)

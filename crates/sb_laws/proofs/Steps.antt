@@ -1,5 +1,6 @@
 -- What each kind of entry makes of the phase of a block.
-use Rattle.std.proofs.Common.{ℕ, suc, ◌≡◌, ◌≤◌, ◌⊎◌, Bool, true, false, not, ◌&&◌, if◌then◌else◌, nat_eq, nat_le, List, [], ◌∷◌, length, filter, Option, Some, None, refl, sym, ◌∙◌, ap, subst, inl, inr, arith}
+use Rattle.std.proofs.Common.{ℕ, suc, ◌≡◌, ◌≤◌, ◌⊎◌, Bool, true, false, not, ◌&&◌, if◌then◌else◌, nat_eq, nat_le, List}
+use Rattle.std.proofs.Common.{[], ◌∷◌, length, filter, Option, Some, None, refl, sym, ◌∙◌, ap, subst, inl, inr, arith}
 use Rattle.std.proofs.lemmas.Bool.{eqb-true, le-leb}
 use Rattle.sb_base.specs.declared.settings.Settings.{Settings}
 use Rattle.sb_history.specs.Contents.{zeros, is_zeros}
@@ -73,8 +74,14 @@ module _ (block_size : ℕ) (settings : Settings) (delay : Delays) (found : Opti
   open_later : (puts : List Put) → OpenPut block_size delay n r H owed puts
       → OpenPut block_size delay (suc n) s (Since n content H) owed puts
   open_later [] p = p
-  open_later (put ∷ puts) p =
-      (p.0, omega (arith, p.1), omega (arith, p.2, later), p.3, p.4, had_same H n content now (filter (λ write. nat_le put.place write) owed) put.content p.5)
+  open_later (put ∷ puts) p = (
+    p.0,
+    omega (arith, p.1),
+    omega (arith, p.2, later),
+    p.3,
+    p.4,
+    had_same H n content now (filter (λ write. nat_le put.place write) owed) put.content p.5,
+  )
 
   phase_same : (known : Option (List ℕ)) (absent : Bool)
       → Phase block_size settings delay found n r known absent get puts owed content H
@@ -143,7 +150,8 @@ module _ (block_size : ℕ) (settings : Settings) (delay : Delays) (found : Opti
 
   pub step_get_begin :
       (known : Option (List ℕ)) (absent : Bool) (fetch : Fetch) → fetch.place ≡ n → fetch.reading ≡ s → (t : Bool)
-      → (t ≡ true → (known ≡ None) × (absent ≡ false) × (get ≡ None) × (newest_is_open puts ≡ false) × (fetch.expect ≡ expected settings fetch.reading puts) × Verifies found fetch.verify)
+      → (t ≡ true → (known ≡ None) × (absent ≡ false) × (get ≡ None) × (newest_is_open puts ≡ false)
+      × (fetch.expect ≡ expected settings fetch.reading puts) × Verifies found fetch.verify)
       → Holds block_size settings delay found start n r known absent get puts owed content H → Holds block_size settings
       delay found start (suc n) s known absent (if t then Some fetch else get) puts owed content (Since n content H)
   step_get_begin known absent fetch place reading false may p = step_same known absent p
@@ -162,7 +170,9 @@ module _ (block_size : ℕ) (settings : Settings) (delay : Delays) (found : Opti
 
   pub step_get_end :
       (known : Option (List ℕ)) (absent absent' : Bool) (given : List ℕ) (t taken : Bool) → (t ≡ true → get ≡ None → ⊥)
-      → (t ≡ true → taken ≡ true → (fetch : Fetch) → get ≡ Some fetch → absent ≡ false → EndedBy fetch.place fetch.reading puts → Ordered delay puts → fetch.expect ≡ expected settings fetch.reading puts → Verifies found fetch.verify
+      → (t ≡ true → taken ≡ true → (fetch : Fetch) → get ≡ Some fetch → absent ≡ false
+      → EndedBy fetch.place fetch.reading puts → Ordered delay puts
+      → fetch.expect ≡ expected settings fetch.reading puts → Verifies found fetch.verify
       → Each (λ c. c ≡ content) (possible_of start puts) → NewestOk puts
       → (given ≡ content) × (absent' ≡ true → given ≡ zeros block_size))
       → Holds block_size settings delay found start n r known absent get puts owed content H
@@ -182,7 +192,13 @@ module _ (block_size : ℕ) (settings : Settings) (delay : Delays) (found : Opti
     ends b is (idle k g e o d) = absurd (is_open refl g)
     ends b is (held k g e o) = absurd (is_open refl g)
     ends b is (writing k g d o) = absurd (is_open refl g)
-    ends false is (getting fetch k g z a b e o d x v) = (idle k refl (EndedBy-later fetch.place (suc n) fetch.reading s puts (omega (arith, a)) (omega (arith, b, later)) e) o d, kept p.1, p.2, p.3)
+    ends false is (getting fetch k g z a b e o d x v) = (
+      idle k refl (EndedBy-later fetch.place (suc n) fetch.reading s puts (omega (arith, a))
+          (omega (arith, b, later)) e) o d,
+      kept p.1,
+      p.2,
+      p.3,
+    )
     ends true is (getting fetch k g z a b e o d x v) =
         let has = remains d p.1 in
         let gave = gives refl is fetch g z e o x v has (p.3 z d) in (
@@ -196,7 +212,8 @@ module _ (block_size : ℕ) (settings : Settings) (delay : Delays) (found : Opti
 
   pub step_put_begin : (known : Option (List ℕ)) (absent : Bool) (put : List ℕ) (pass : ℕ) (t : Bool)
       → delay.order ≤ settings.min_write_delay → length content ≡ block_size
-      → (t ≡ true → (known ≡ Some put) × (newest_is_open puts ≡ false) × (is_nil owed ≡ false) × SpacedFrom settings.min_write_delay s puts)
+      → (t ≡ true → (known ≡ Some put) × (newest_is_open puts ≡ false) × (is_nil owed ≡ false)
+      × SpacedFrom settings.min_write_delay s puts)
       → Holds block_size settings delay found start n r known absent get puts owed content H
       → Holds block_size settings delay found start (suc n) s known
       (if t then (if is_zeros put then absent else false) else absent) get
@@ -246,8 +263,16 @@ module _ (block_size : ℕ) (settings : Settings) (delay : Delays) (found : Opti
         (filter (λ write. nat_le (newest_place ps) write) owed) content (Since n content H)
     ended_ok [] k g o z = absurd o
     ended_ok (put ∷ ps) k g o z = (
-      held k g ((omega arith, omega arith), EndedBy-later put.place (suc n) put.reading s ps (omega (arith, o.1)) (omega (arith, o.2, later)) o.3.0)
-          (o.3.0, still delay put (record put { ending = Some (record { place = n; reading = s; ok = true }) }) ps refl refl o.3.1, omega (arith, o.2, later)),
+      held k g (
+        (omega arith, omega arith),
+        EndedBy-later put.place (suc n) put.reading s ps (omega (arith, o.1))
+            (omega (arith, o.2, later)) o.3.0,
+      ) (
+        o.3.0,
+        still delay put (record put { ending = Some (record { place = n; reading = s; ok = true }) }) ps
+            refl refl o.3.1,
+        omega (arith, o.2, later),
+      ),
       (had_same H n content now (filter (λ write. nat_le put.place write) owed) put.content o.5, tt),
       λ known_zero. (zero_now (is_zeros put.content) refl known_zero, tt),
       λ known_zero nil. refl,
@@ -264,8 +289,16 @@ module _ (block_size : ℕ) (settings : Settings) (delay : Delays) (found : Opti
         (ended (record { place = n; reading = s; ok = false }) ps) owed content (Since n content H)
     ended_failed [] k g d o has z = absurd o
     ended_failed (put ∷ ps) k g d o has z = (
-      held k g ((omega arith, omega arith), EndedBy-later put.place (suc n) put.reading s ps (omega (arith, o.1)) (omega (arith, o.2, later)) o.3.0)
-          (o.3.0, still delay put (record put { ending = Some (record { place = n; reading = s; ok = false }) }) ps refl refl o.3.1, omega (arith, o.2, later)),
+      held k g (
+        (omega arith, omega arith),
+        EndedBy-later put.place (suc n) put.reading s ps (omega (arith, o.1))
+            (omega (arith, o.2, later)) o.3.0,
+      ) (
+        o.3.0,
+        still delay put (record put { ending = Some (record { place = n; reading = s; ok = false }) }) ps
+            refl refl o.3.1,
+        omega (arith, o.2, later),
+      ),
       failed_remains (Had (Since n content H) (suc n) owed) start put ps (record { place = n; reading = s; ok = false })
           o.0 refl has,
       λ known_zero. failed_remains (λ c. c ≡ zeros block_size) start put ps
@@ -303,8 +336,14 @@ module _ (block_size : ℕ) (settings : Settings) (delay : Delays) (found : Opti
         → OpenPut block_size delay (suc n) s (Since n out H) (n ∷ owed) puts
     open_written [] o = o
     open_written (put ∷ puts) o =
-        let here = le-leb put.place n (omega (arith, o.1)) in
-        (o.0, omega (arith, o.1), omega (arith, o.2, later), o.3, o.4, rw here (had_write H n content now out (filter (λ write. nat_le put.place write) owed) put.content o.5))
+        let here = le-leb put.place n (omega (arith, o.1)) in (
+          o.0,
+          omega (arith, o.1),
+          omega (arith, o.2, later),
+          o.3,
+          o.4,
+          rw here (had_write H n content now out (filter (λ write. nat_le put.place write) owed) put.content o.5),
+        )
 
     written : Each (Had H n owed) (possible_of start puts)
         → Each (Had (Since n out H) (suc n) (n ∷ owed)) (possible_of start puts)
@@ -335,7 +374,8 @@ module _ (block_size : ℕ) (settings : Settings) (delay : Delays) (found : Opti
             λ not_null nil. absurd (cc),
           )
       by (idle k g e o d) false is = (
-        held (unknown_written absent known out k (not_both absent (newest_is_open puts) (is_zeros out) (shut n r puts e) is)) g (EndedBy-later n (suc n) r s puts (omega arith) later e) o,
+        held (unknown_written absent known out k (not_both absent (newest_is_open puts) (is_zeros out)
+            (shut n r puts e) is)) g (EndedBy-later n (suc n) r s puts (omega arith) later e) o,
         written p.1,
         p.2,
         λ not_null nil. absurd (cc),
@@ -355,7 +395,8 @@ module _ (block_size : ℕ) (settings : Settings) (delay : Delays) (found : Opti
         p.2,
         λ not_null nil. absurd (cc),
       )
-      by (writing k g d o) true is = absurd (not_open content block_size delay n r H owed puts o (all_three absent (newest_is_open puts) (is_zeros out) is).1)
+      by (writing k g d o) true is = absurd (not_open content block_size delay n r H owed puts o
+          (all_three absent (newest_is_open puts) (is_zeros out) is).1)
       by (writing k g d o) false is = (
         writing (known_written absent known out content k) g refl (open_written puts o),
         written p.1,
@@ -373,5 +414,7 @@ module _ (block_size : ℕ) (settings : Settings) (delay : Delays) (found : Opti
   step_write known absent out next false may p = step_same known absent p
   step_write known absent out next true may p =
       let m = may refl in
-      subst (λ x. Holds block_size settings delay found start (suc n) s (cached_unless_zeros absent known out) absent get puts (if (absent && not (newest_is_open puts)) && is_zeros out then [] else n ∷ owed) x (Since n x H)) m.1
+      subst (λ x. Holds block_size settings delay found start (suc n) s
+      (cached_unless_zeros absent known out) absent get puts
+      (if (absent && not (newest_is_open puts)) && is_zeros out then [] else n ∷ owed) x (Since n x H)) m.1
       (writes out m.2 known absent m.0 p ((absent && not (newest_is_open puts)) && is_zeros out) refl)

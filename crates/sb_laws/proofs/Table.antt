@@ -1,5 +1,7 @@
 -- The states that a history gives go by the table.
-use Rattle.std.proofs.Common.{ℕ, suc, ◌≡◌, ◌<◌, ◌⊎◌, Bool, true, false, not, ◌&&◌, if◌then◌else◌, nat_eq, nat_le, List, [], ◌∷◌, length, filter, Option, Some, None, is_some, is_none, refl, ◌∙◌, subst, inl, inr, arith, rules}
+use Rattle.std.proofs.Common.{ℕ, suc, ◌≡◌, ◌<◌, ◌⊎◌, Bool, true, false, not, ◌&&◌, if◌then◌else◌, nat_eq, nat_le, List}
+use Rattle.std.proofs.Common.{[], ◌∷◌, length, filter, Option, Some, None, is_some, is_none, refl, ◌∙◌, subst, inl, inr}
+use Rattle.std.proofs.Common.{arith, rules}
 use Rattle.std.proofs.lemmas.Bool.{eqb-true, le-leb, lt-leb}
 use Rattle.sb_base.specs.declared.geometry.Geometry.{Geometry}
 use Rattle.sb_base.specs.declared.settings.Settings.{Settings}
@@ -9,12 +11,15 @@ use Rattle.sb_base.specs.declared.entry.Entry.{Entry}
 use Rattle.sb_history.specs.Contents.{is_zeros}
 use Rattle.sb_history.specs.Puts.{Put, Ending, puts_of, ended, newest_is_open, newest_is_zeros, newest_place, put_open}
 use Rattle.sb_history.specs.Gets.{Fetch, fetch_of}
-use Rattle.sb_history.specs.Cache.{Found, outcome, cached_content, cached_after, cached_unless_zeros, zero_shown, answer_content, is_known_zero}
+use Rattle.sb_history.specs.Cache.{Found, outcome, cached_content, cached_after, cached_unless_zeros, zero_shown}
+use Rattle.sb_history.specs.Cache.{answer_content, is_known_zero}
 use Rattle.sb_history.specs.Writes.{is_nil, unacked_writes}
 use Rattle.sb_history.specs.Eviction.{waits_unverified, is_clean, is_unverified}
-use Rattle.sb_history.specs.AccessRules.{is_opening, is_opening_kind, EndsFetch, EndsPut, BeginsGet, BeginsPut, MayFollow, FollowsAccessRules}
+use Rattle.sb_history.specs.AccessRules.{is_opening, is_opening_kind, EndsFetch, EndsPut, BeginsGet, BeginsPut}
+use Rattle.sb_history.specs.AccessRules.{MayFollow, FollowsAccessRules}
 use Rattle.sb_history.specs.CachePolicy.{FetchesUnknown, DropsVictim, PutsDirty, ObeysPolicy, FollowsCachePolicy}
-use Rattle.sb_history.specs.States.{missing, clean, clean2, dirty, reading, reading2, writing, writing2, state_of, state_at, written, get_begun, get_ended, put_begun, put_ended, next_state}
+use Rattle.sb_history.specs.States.{missing, clean, clean2, dirty, reading, reading2, writing, writing2, state_of}
+use Rattle.sb_history.specs.States.{state_at, written, get_begun, get_ended, put_begun, put_ended, next_state}
 use Rattle.sb_history.specs.Laws.{StatesGoByTable}
 use Rattle.sb_laws.proofs.Ends.{both_true, ends_open, not_open_end, opening}
 use Rattle.sb_laws.proofs.Held.{Each, Each-map}
@@ -69,7 +74,8 @@ module _ (n : ℕ) (get : Option Fetch) (puts : List Put) (owed : List ℕ) wher
   table_known_zero : (unverified absent marks : Bool) (known : Option (List ℕ)) (t : Bool)
       → (t ≡ true → (get ≡ None) × (puts ≡ []) × (known ≡ None)) → Fits n unverified known absent get puts owed
       → Fits (suc n) (if t then false else unverified) known (if t then marks else absent) get puts owed
-      × (state_of (if t then false else unverified) known get puts owed ≡ (if t then missing else state_of unverified known get puts owed))
+      × (state_of (if t then false else unverified) known get puts owed ≡
+      (if t then missing else state_of unverified known get puts owed))
   table_known_zero unverified absent marks known false may p = (same unverified absent known p, refl)
   table_known_zero unverified absent marks known true may p =
       (by p.0, rw ((may refl).0, (may refl).1, (may refl).2) refl) where
@@ -82,14 +88,18 @@ module _ (n : ℕ) (get : Option Fetch) (puts : List Put) (owed : List ℕ) wher
   table_drop : (unverified absent : Bool) (known : Option (List ℕ)) (t : Bool)
       → (t ≡ true → (get ≡ None) × (newest_is_open puts ≡ false) × (is_nil owed ≡ true))
       → Fits n unverified known absent get puts owed
-      → Fits (suc n) (if t then false else unverified) (if t then None else known) absent get puts owed × (state_of (if t then false else unverified) (if t then None else known) get puts owed ≡ (if t then missing else state_of unverified known get puts owed))
+      → Fits (suc n) (if t then false else unverified) (if t then None else known) absent get puts owed
+      × (state_of (if t then false else unverified) (if t then None else known) get puts owed ≡
+      (if t then missing else state_of unverified known get puts owed))
   table_drop unverified absent known false may p = (same unverified absent known p, refl)
   table_drop unverified absent known true may p =
       let m = may refl in ((idle refl m.0 m.1 m.2 (λ is. refl), below_later n owed p.1), rw (m.0, m.1) refl)
 
   table_get_begin : (unverified absent : Bool) (known : Option (List ℕ)) (fetch : Fetch) (t : Bool)
       → (t ≡ true → (known ≡ None) × (absent ≡ false) × (get ≡ None)) → Fits n unverified known absent get puts owed
-      → Fits (suc n) unverified known absent (if t then Some fetch else get) puts owed × (state_of unverified known (if t then Some fetch else get) puts owed ≡ (if t then get_begun (state_of unverified known get puts owed) else state_of unverified known get puts owed))
+      → Fits (suc n) unverified known absent (if t then Some fetch else get) puts owed
+      × (state_of unverified known (if t then Some fetch else get) puts owed ≡
+      (if t then get_begun (state_of unverified known get puts owed) else state_of unverified known get puts owed))
   table_get_begin unverified absent known fetch false may p = (same unverified absent known p, refl)
   table_get_begin unverified absent known fetch true may p = by p.0 where
     begun : (unverified : Bool)
@@ -110,7 +120,10 @@ module _ (n : ℕ) (get : Option Fetch) (puts : List Put) (owed : List ℕ) wher
       → Fits (suc n) (if t then (if taken then false else unverified) else unverified)
       (if t then (if taken then Some given else known) else known)
       (if t then (if taken then absent' else absent) else absent) (if t then None else get) puts owed
-      × (state_of (if t then (if taken then false else unverified) else unverified) (if t then (if taken then Some given else known) else known) (if t then None else get) puts owed ≡ (if t then get_ended taken (state_of unverified known get puts owed) else state_of unverified known get puts owed))
+      × (state_of (if t then (if taken then false else unverified) else unverified)
+      (if t then (if taken then Some given else known) else known) (if t then None else get) puts owed ≡
+      (if t then get_ended taken (state_of unverified known get puts owed) else state_of unverified known get puts
+      owed))
   table_get_end unverified absent absent' known given false taken may p = (same unverified absent known p, refl)
   table_get_end unverified absent absent' known given true taken may p = by taken p.0 where
     ends : (unverified : Bool)
@@ -121,7 +134,8 @@ module _ (n : ℕ) (get : Option Fetch) (puts : List Put) (owed : List ℕ) wher
     by : (taken : Bool) → Shape n unverified known absent get puts owed → Fits (suc n)
         (if taken then false else unverified) (if taken then Some given else known)
         (if taken then absent' else absent) None puts owed
-        × (state_of (if taken then false else unverified) (if taken then Some given else known) None puts owed ≡ get_ended taken (state_of unverified known get puts owed))
+        × (state_of (if taken then false else unverified) (if taken then Some given else known) None puts owed
+        ≡ get_ended taken (state_of unverified known get puts owed))
     by taken (idle k g o d u) = absurd (may refl g)
     by taken (held content k g o u) = absurd (may refl g)
     by taken (putting content k g o x d u) = absurd (may refl g)
@@ -133,7 +147,9 @@ module _ (n : ℕ) (get : Option Fetch) (puts : List Put) (owed : List ℕ) wher
       (unverified absent absent' : Bool) (known : Option (List ℕ)) (put : Put) (t : Bool) → put.ending ≡ None
       → put.place ≡ n → (t ≡ true → (known ≡ Some put.content) × (newest_is_open puts ≡ false) × (is_nil owed ≡ false))
       → Fits n unverified known absent get puts owed
-      → Fits (suc n) unverified known (if t then absent' else absent) get (if t then put ∷ puts else puts) owed × (state_of unverified known get (if t then put ∷ puts else puts) owed ≡ (if t then put_begun (state_of unverified known get puts owed) else state_of unverified known get puts owed))
+      → Fits (suc n) unverified known (if t then absent' else absent) get (if t then put ∷ puts else puts) owed
+      × (state_of unverified known get (if t then put ∷ puts else puts) owed ≡
+      (if t then put_begun (state_of unverified known get puts owed) else state_of unverified known get puts owed))
   table_put_begin unverified absent absent' known put false none here may p = (same unverified absent known p, refl)
   table_put_begin unverified absent absent' known put true none here may p = by p.0 where
     by : Shape n unverified known absent get puts owed → Fits (suc n) unverified known absent' get (put ∷ puts) owed
@@ -143,14 +159,18 @@ module _ (n : ℕ) (get : Option Fetch) (puts : List Put) (owed : List ℕ) wher
     by (putting content k g o x d u) = let shut = (may refl).1 in absurd (cc)
     by (held content k g o u) =
         let m = may refl in
-        let since = none_since n owed p.1 in
-        ((putting content k g (rw none refl) (omega (arith, here)) m.2 u, below_later n owed p.1), rw (k, g, o, m.2, none, here, since) refl)
+        let since = none_since n owed p.1 in (
+          (putting content k g (rw none refl) (omega (arith, here)) m.2 u, below_later n owed p.1),
+          rw (k, g, o, m.2, none, here, since) refl,
+        )
 
   table_put_end : (unverified absent absent' : Bool) (known : Option (List ℕ)) (ending : Ending) (t ok : Bool)
       → (t ≡ true → newest_is_open puts ≡ true) → Fits n unverified known absent get puts owed
       → Fits (suc n) unverified known (if t then absent' else absent) get (if t then ended ending puts else puts)
       (if t then (if ok then filter (λ write. nat_le (newest_place puts) write) owed else owed) else owed)
-      × (state_of unverified known get (if t then ended ending puts else puts) (if t then (if ok then filter (λ write. nat_le (newest_place puts) write) owed else owed) else owed) ≡ (if t then put_ended ok (state_of unverified known get puts owed) else state_of unverified known get puts owed))
+      × (state_of unverified known get (if t then ended ending puts else puts)
+      (if t then (if ok then filter (λ write. nat_le (newest_place puts) write) owed else owed) else owed) ≡
+      (if t then put_ended ok (state_of unverified known get puts owed) else state_of unverified known get puts owed))
   table_put_end unverified absent absent' known ending false ok may p = (same unverified absent known p, refl)
   table_put_end unverified absent absent' known ending true ok may p = by ok p.0 where
     shut : (puts : List Put) → newest_is_open puts ≡ true → newest_is_open (ended ending puts) ≡ false
@@ -167,24 +187,32 @@ module _ (n : ℕ) (get : Option Fetch) (puts : List Put) (owed : List ℕ) wher
 
     by : (ok : Bool) → Shape n unverified known absent get puts owed → Fits (suc n) unverified known absent' get
         (ended ending puts) (if ok then filter (λ write. nat_le (newest_place puts) write) owed else owed)
-        × (state_of unverified known get (ended ending puts) (if ok then filter (λ write. nat_le (newest_place puts) write) owed else owed) ≡ put_ended ok (state_of unverified known get puts owed))
+        × (state_of unverified known get (ended ending puts)
+        (if ok then filter (λ write. nat_le (newest_place puts) write) owed else owed) ≡ put_ended ok
+        (state_of unverified known get puts owed))
     by ok (idle k g o d u) = let is = may refl in absurd (cc)
     by ok (getting fetch k g a o d) = let is = may refl in absurd (cc)
     by ok (held content k g o u) = let is = may refl in absurd (cc)
     by true (putting content k g o x d u) =
-        let closed = shut puts o in
-        ((held content k g closed u, filter_below (suc n) (newest_place puts) owed (below_later n owed p.1)), rw (k, g, o, closed) (after_ok (is_nil (filter (λ write. nat_le (newest_place puts) write) owed))))
+        let closed = shut puts o in (
+          (held content k g closed u, filter_below (suc n) (newest_place puts) owed (below_later n owed p.1)),
+          rw (k, g, o, closed) (after_ok (is_nil (filter (λ write. nat_le (newest_place puts) write) owed))),
+        )
     by false (putting content k g o x d u) =
-        let closed = shut puts o in
-        ((held content k g closed u, below_later n owed p.1), rw (k, g, o, closed, d) (after_failed (is_nil (filter (λ write. nat_le (newest_place puts) write) owed))))
+        let closed = shut puts o in (
+          (held content k g closed u, below_later n owed p.1),
+          rw (k, g, o, closed, d) (after_failed (is_nil (filter (λ write. nat_le (newest_place puts) write) owed))),
+        )
 
   table_write : (unverified absent : Bool) (known : Option (List ℕ)) (out : List ℕ) (t : Bool) → (t ≡ true → get ≡ None)
       → Fits n unverified known absent get puts owed
       → Fits (suc n) (if t then false else unverified) (if t then cached_unless_zeros absent known out else known)
       absent get puts
       (if t then (if (absent && not (newest_is_open puts)) && is_zeros out then [] else n ∷ owed) else owed)
-      × (state_of (if t then false else unverified) (if t then cached_unless_zeros absent known out else known) get puts (if t then (if (absent && not (newest_is_open puts)) && is_zeros out then [] else n ∷ owed) else owed)
-      ≡ (if t then written ((absent && not (newest_is_open puts)) && is_zeros out) (state_of unverified known get puts owed) else state_of unverified known get puts owed))
+      × (state_of (if t then false else unverified) (if t then cached_unless_zeros absent known out else known) get
+      puts (if t then (if (absent && not (newest_is_open puts)) && is_zeros out then [] else n ∷ owed) else owed)
+      ≡ (if t then written ((absent && not (newest_is_open puts)) && is_zeros out)
+      (state_of unverified known get puts owed) else state_of unverified known get puts owed))
   table_write unverified absent known out false may p = (same unverified absent known p, refl)
   table_write unverified absent known out true may p =
       by p.0 ((absent && not (newest_is_open puts)) && is_zeros out) refl where
@@ -206,7 +234,9 @@ module _ (n : ℕ) (get : Option Fetch) (puts : List Put) (owed : List ℕ) wher
 
         by : Shape n unverified known absent get puts owed → (c : Bool)
             → ((absent && not (newest_is_open puts)) && is_zeros out) ≡ c
-            → Fits (suc n) false (cached_unless_zeros absent known out) absent get puts (if c then [] else n ∷ owed) × (state_of false (cached_unless_zeros absent known out) get puts (if c then [] else n ∷ owed) ≡ written c (state_of unverified known get puts owed))
+            → Fits (suc n) false (cached_unless_zeros absent known out) absent get puts (if c then [] else n ∷ owed)
+            × (state_of false (cached_unless_zeros absent known out) get puts (if c then [] else n ∷ owed) ≡ written c
+            (state_of unverified known get puts owed))
         by (getting fetch k g a o d) c is = let none = may refl in absurd (cc)
         by (idle k g o d u) true is =
             let three = all_three absent (newest_is_open puts) (is_zeros out) is in
@@ -214,20 +244,28 @@ module _ (n : ℕ) (get : Option Fetch) (puts : List Put) (owed : List ℕ) wher
             let verified = u three.0 in
             ((idle none g o refl (λ x. refl), tt), rw (none, k, g, o, verified) refl)
         by (idle k g o d u) false is =
-            let some = unknown_written absent known out k (not_both absent (newest_is_open puts) (is_zeros out) o is) in
-            ((held out some g o refl, (omega arith, below_later n owed p.1)), rw (some, k, g, o) (new_clean2 unverified))
+            let some = unknown_written absent known out k (not_both absent (newest_is_open puts) (is_zeros out) o is) in (
+              (held out some g o refl, (omega arith, below_later n owed p.1)),
+              rw (some, k, g, o) (new_clean2 unverified),
+            )
         by (held content k g o u) true is =
             let some = known_written absent known out content k in
             ((held out some g o refl, tt), rw (some, k, g, o) (now_clean (is_nil owed)))
         by (held content k g o u) false is =
-            let some = known_written absent known out content k in
-            ((held out some g o refl, (omega arith, below_later n owed p.1)), rw (some, k, g, o) (new_dirty (is_nil owed)))
-        by (putting content k g o x d u) true is = let shut = (all_three absent (newest_is_open puts) (is_zeros out) is).1
+            let some = known_written absent known out content k in (
+              (held out some g o refl, (omega arith, below_later n owed p.1)),
+              rw (some, k, g, o) (new_dirty (is_nil owed)),
+            )
+        by (putting content k g o x d u) true is = let shut =
+            (all_three absent (newest_is_open puts) (is_zeros out) is).1
             in absurd (cc)
         by (putting content k g o x d u) false is =
             let some = known_written absent known out content k in
-            let since = le-leb (newest_place puts) n (omega (arith, x)) in
-            ((putting out some g o (omega (arith, x)) refl refl, (omega arith, below_later n owed p.1)), rw (some, k, g, o, since) (now_written (is_nil (filter (λ write. nat_le (newest_place puts) write) owed))))
+            let since = le-leb (newest_place puts) n (omega (arith, x)) in (
+              (putting out some g o (omega (arith, x)) refl refl, (omega arith, below_later n owed p.1)),
+              rw (some, k, g, o, since) (now_written (is_nil (filter
+                  (λ write. nat_le (newest_place puts) write) owed))),
+            )
 
 -- in the opening nothing is cached
 opening_entry :
@@ -277,7 +315,9 @@ FitsAt block_size found past block =
 
 victim_shape : (block_size blocks : ℕ) (found : Found) (past : List Entry) (block : ℕ)
     → (waits_unverified found past block ≡ true) ⊎ (is_clean block_size found past block ≡ true)
-    → ((cached_content block_size found past block ≡ None) × (fetch_of past block ≡ None)) ⊎ ((is_some (cached_content block_size found past block) ≡ true) × (is_nil (unacked_writes block_size found past block) ≡ true) × (newest_is_open (puts_of past block) ≡ false))
+    → ((cached_content block_size found past block ≡ None) × (fetch_of past block ≡ None))
+    ⊎ ((is_some (cached_content block_size found past block) ≡ true)
+    × (is_nil (unacked_writes block_size found past block) ≡ true) × (newest_is_open (puts_of past block) ≡ false))
 victim_shape block_size blocks found past block (inl waits) =
     let both = both_true (is_unverified found past block) (is_none (fetch_of past block)) waits in
     inl (unverified_unknown block_size found past block both.0, none_of (fetch_of past block) both.1)
@@ -300,7 +340,11 @@ step geometry settings found past block pass now (kind.KnownZero of) may obeys p
     (unacked_writes geometry.block_size found past block) (is_unverified found past block)
     (is_known_zero geometry.block_size found past block) found.marks
     (cached_content geometry.block_size found past block) (nat_eq of block)
-    (λ t. let before = opening past block may.0 in (before.1, before.0, opening_unknown geometry.block_size found past block may.0)) p
+    (λ t. let before = opening past block may.0 in (
+      before.1,
+      before.0,
+      opening_unknown geometry.block_size found past block may.0,
+    )) p
 step geometry settings found past block pass now (kind.Write part bytes) may obeys p =
     table_write (length past) (fetch_of past block) (puts_of past block)
     (unacked_writes geometry.block_size found past block) (is_unverified found past block)
@@ -320,8 +364,12 @@ step geometry settings found past block pass now (kind.GetEnd of answer verify t
     table_get_end (length past) (fetch_of past block) (puts_of past block)
     (unacked_writes geometry.block_size found past block) (is_unverified found past block)
     (is_known_zero geometry.block_size found past block)
-    (zero_shown found.marks geometry.block_size (found.body block) answer (is_known_zero geometry.block_size found past block)) (cached_content geometry.block_size found past block) (answer_content geometry.block_size (found.body block) answer) (nat_eq of block) taken
-    (λ t is. not_open_end geometry.block_size (fetch_of past block) pass answer verify taken (subst (λ b. EndsFetch geometry.block_size (fetch_of past b) pass answer verify taken) (eqb-true of block t) may) is) p
+    (zero_shown found.marks geometry.block_size (found.body block) answer
+    (is_known_zero geometry.block_size found past block)) (cached_content geometry.block_size found past block)
+    (answer_content geometry.block_size (found.body block) answer) (nat_eq of block) taken
+    (λ t is. not_open_end geometry.block_size (fetch_of past block) pass answer verify taken
+    (subst (λ b. EndsFetch geometry.block_size (fetch_of past b) pass answer verify taken)
+    (eqb-true of block t) may) is) p
 step geometry settings found past block pass now (kind.PutBegin of content) may obeys p =
     table_put_begin (length past) (fetch_of past block) (puts_of past block)
     (unacked_writes geometry.block_size found past block) (is_unverified found past block)
@@ -338,7 +386,9 @@ step geometry settings found past block pass now (kind.PutEnd of ok) may obeys p
     table_put_end (length past) (fetch_of past block) (puts_of past block)
     (unacked_writes geometry.block_size found past block) (is_unverified found past block)
     (is_known_zero geometry.block_size found past block)
-    (if ok then (if newest_is_zeros (puts_of past block) then found.marks else is_known_zero geometry.block_size found past block) else is_known_zero geometry.block_size found past block) (cached_content geometry.block_size found past block)
+    (if ok then (if newest_is_zeros (puts_of past block) then found.marks else is_known_zero geometry.block_size found
+    past block) else is_known_zero geometry.block_size found past block)
+    (cached_content geometry.block_size found past block)
     (record { place = length past; reading = now; ok = ok }) (nat_eq of block) ok
     (λ t. ends_open (puts_of past block) pass (subst (λ b. EndsPut (puts_of past b) pass) (eqb-true of block t) may))
     p
@@ -352,17 +402,24 @@ step geometry settings found past block pass now (kind.Dropped of) may obeys p =
     drop_facts (length past) (is_unverified found past block) (is_known_zero geometry.block_size found past block)
     (cached_content geometry.block_size found past block) (fetch_of past block) (puts_of past block)
     (unacked_writes geometry.block_size found past block) p.0
-    (victim_shape geometry.block_size geometry.blocks found past block (victim_cases geometry.block_size geometry.blocks found past block g.is_victim))) p
-step geometry settings found past block pass now e may obeys p =
-    (same (length past) (fetch_of past block) (puts_of past block) (unacked_writes geometry.block_size found past block) (is_unverified found past block) (is_known_zero geometry.block_size found past block) (cached_content geometry.block_size found past block) p, refl)
+    (victim_shape geometry.block_size geometry.blocks found past block
+    (victim_cases geometry.block_size geometry.blocks found past block g.is_victim))) p
+step geometry settings found past block pass now e may obeys p = (
+  same (length past) (fetch_of past block) (puts_of past block)
+      (unacked_writes geometry.block_size found past block) (is_unverified found past block)
+      (is_known_zero geometry.block_size found past block) (cached_content geometry.block_size found past block) p,
+  refl,
+)
 
 fits : (geometry : Geometry) (settings : Settings) (found : Found) (past : List Entry)
     → FollowsAccessRules geometry settings found past → FollowsCachePolicy geometry settings found past → (block : ℕ)
     → FitsAt geometry.block_size found past block
 fits geometry settings found [] rules policy block = (idle refl refl refl refl (λ is. absurd (cc)), tt)
 fits geometry settings found (entry ∷ past) rules policy block =
-    (step geometry settings found past block entry.pass entry.reading entry.kind rules.0 policy.0 (fits geometry settings found past rules.2 policy.2 block)).0
+    (step geometry settings found past block entry.pass entry.reading entry.kind rules.0 policy.0
+    (fits geometry settings found past rules.2 policy.2 block)).0
 
 pub states_go_by_table : StatesGoByTable
 states_go_by_table geometry settings found entry past rules policy block =
-    (step geometry settings found past block entry.pass entry.reading entry.kind rules.0 policy.0 (fits geometry settings found past rules.2 policy.2 block)).1
+    (step geometry settings found past block entry.pass entry.reading entry.kind rules.0 policy.0
+    (fits geometry settings found past rules.2 policy.2 block)).1

@@ -1,12 +1,15 @@
 -- The victim owes nothing, and no put of it is open.
-use Rattle.std.proofs.Common.{ℕ, suc, ◌≡◌, ◌⊎◌, Bool, true, false, not, if◌then◌else◌, nat_eq, nat_lt, List, [], ◌∷◌, Option, Some, None, zero, refl, subst, inl, inr}
+use Rattle.std.proofs.Common.{ℕ, suc, ◌≡◌, ◌⊎◌, Bool, true, false, not, if◌then◌else◌, nat_eq, nat_lt, List, [], ◌∷◌}
+use Rattle.std.proofs.Common.{Option, Some, None, zero, refl, subst, inl, inr}
 use Rattle.sb_base.specs.declared.entry.EntryKind.{EntryKind}
 use Rattle.sb_base.specs.declared.entry.EntryKind.TheVariants as kind
 use Rattle.sb_base.specs.declared.entry.Entry.{Entry}
 use Rattle.sb_history.specs.Puts.{puts_of, newest_is_open, put_open}
-use Rattle.sb_history.specs.Cache.{Found, cached_content, cached_after, cached_unless_zeros, is_known_zero, outcome, answer_content}
+use Rattle.sb_history.specs.Cache.{Found, cached_content, cached_after, cached_unless_zeros, is_known_zero, outcome}
+use Rattle.sb_history.specs.Cache.{answer_content}
 use Rattle.sb_history.specs.Writes.{is_nil, unacked_writes, is_dirty}
-use Rattle.sb_history.specs.Eviction.{is_unverified, unverified_after, lowest, lighter, lightest, first_of, waits_unverified, is_clean, victim_of, last_use}
+use Rattle.sb_history.specs.Eviction.{is_unverified, unverified_after, lowest, lighter, lightest, first_of}
+use Rattle.sb_history.specs.Eviction.{waits_unverified, is_clean, victim_of, last_use}
 use Rattle.sb_laws.proofs.Ends.{both_true}
 
 -- what is found passes the test
@@ -48,7 +51,8 @@ pub victim_cases : (block_size blocks : ℕ) (found : Found) (past : List Entry)
     → victim_of block_size blocks found past ≡ Some block
     → (waits_unverified found past block ≡ true) ⊎ (is_clean block_size found past block ≡ true)
 victim_cases block_size blocks found past block is =
-    by (first_of_cases (lowest (waits_unverified found past) blocks) (lightest (is_clean block_size found past) (λ other. (last_use past other).place) blocks) block is) where
+    by (first_of_cases (lowest (waits_unverified found past) blocks)
+    (lightest (is_clean block_size found past) (λ other. (last_use past other).place) blocks) block is) where
       by : (lowest (waits_unverified found past) blocks ≡ Some block) ⊎
           (lightest (is_clean block_size found past) (λ other. (last_use past other).place) blocks ≡ Some block) →
           (waits_unverified found past block ≡ true) ⊎ (is_clean block_size found past block ≡ true)

@@ -1,5 +1,6 @@
 -- Worked histories over tiny blocks, the newest entry first.
-use Rattle.std.specs.Prelude.{ℕ, ◌≡◌, ◌+◌, ◌*◌, ◌≤◌, zero, suc, Bool, true, false, nat_eq, if◌then◌else◌, List, [], ◌∷◌, length, Option, Some, None}
+use Rattle.std.specs.Prelude.{ℕ, ◌≡◌, ◌+◌, ◌*◌, ◌≤◌, zero, suc, Bool, true, false, nat_eq, if◌then◌else◌, List, [], ◌∷◌}
+use Rattle.std.specs.Prelude.{length, Option, Some, None}
 use Rattle.md5.specs.Md5.{md5}
 use Rattle.sb_base.specs.declared.part.Part.{Part}
 use Rattle.sb_base.specs.declared.geometry.Geometry.{Geometry}
@@ -8,7 +9,8 @@ use Rattle.sb_base.specs.declared.line.Expect.{Expect}
 use Rattle.sb_base.specs.declared.line.Why.TheVariants.{Spaced}
 use Rattle.sb_base.specs.declared.entry.Shown.TheVariants as shown
 use Rattle.sb_base.specs.declared.entry.EntryKind.{EntryKind}
-use Rattle.sb_base.specs.declared.entry.EntryKind.TheVariants.{KnownZero, Read, Write, FlushBegin, FlushDone, GetBegin, GetEnd, PutBegin, PutEnd, Dropped, Waited}
+use Rattle.sb_base.specs.declared.entry.EntryKind.TheVariants.{KnownZero, Read, Write, FlushBegin, FlushDone, GetBegin}
+use Rattle.sb_base.specs.declared.entry.EntryKind.TheVariants.{GetEnd, PutBegin, PutEnd, Dropped, Waited}
 use Rattle.sb_base.specs.declared.entry.Entry.{Entry}
 use Rattle.sb_history.specs.Contents.{Start, zeros}
 use Rattle.sb_history.specs.Visibility.{Delays}
@@ -29,7 +31,20 @@ tiny = record { block_size = 1; blocks = 16 }
 
 abbrev pub spaced : Settings
 spaced =
-    record { min_write_delay = 500; md5_time = 10000; md5_size = 10000; cache_size = 1; write_delay = 250; clean_time = 0; max_dirty = 0; stale_limit = 5000; read_ahead = 0; read_ahead_trigger = 0; threads = 1; clients = 1 }
+    record {
+      min_write_delay = 500;
+      md5_time = 10000;
+      md5_size = 10000;
+      cache_size = 1;
+      write_delay = 250;
+      clean_time = 0;
+      max_dirty = 0;
+      stale_limit = 5000;
+      read_ahead = 0;
+      read_ahead_trigger = 0;
+      threads = 1;
+      clients = 1;
+    }
 
 -- three contents of a block of one byte
 abbrev pub a : List ℕ
@@ -149,7 +164,20 @@ small = record { block_size = 2; blocks = 8 }
 
 abbrev pub spaced_by_5 : Settings
 spaced_by_5 =
-    record { min_write_delay = 5; md5_time = 10; md5_size = 4; cache_size = 1; write_delay = 0; clean_time = 0; max_dirty = 0; stale_limit = 0; read_ahead = 0; read_ahead_trigger = 0; threads = 1; clients = 1 }
+    record {
+      min_write_delay = 5;
+      md5_time = 10;
+      md5_size = 4;
+      cache_size = 1;
+      write_delay = 0;
+      clean_time = 0;
+      max_dirty = 0;
+      stale_limit = 0;
+      read_ahead = 0;
+      read_ahead_trigger = 0;
+      threads = 1;
+      clients = 1;
+    }
 
 abbrev pub all_zeros : Start
 all_zeros block = zeros 2
@@ -192,7 +220,8 @@ zeros_written = at 1 (Write block_3 (0 ∷ 0 ∷ [])) ∷ at 0 (KnownZero 3) ∷
 -- the rules without the one that no write stands while a GET of its block is open
 abbrev pub MayWriteDuringGet : Found → List Entry → EntryKind → Type 0
 MayWriteDuringGet found past (Write part bytes) =
-    (part.offset + length bytes ≤ 2) × (cached_content 2 found past part.block ≡ None → is_known_zero 2 found past part.block ≡ false → (part.offset ≡ 0) × (length bytes ≡ 2))
+    (part.offset + length bytes ≤ 2) × (cached_content 2 found past part.block ≡ None
+    → is_known_zero 2 found past part.block ≡ false → (part.offset ≡ 0) × (length bytes ≡ 2))
 MayWriteDuringGet found past kind = Unit {0}
 
 -- an entry is a write

@@ -40,7 +40,8 @@ pub fn sound_survives_crash()
     ensures { SoundSurvivesCrash }
 {}
 
-/// Without a window, and over a store that shows the latest versions, reads are those of registers, whatever MD5s collide.
+/// Without a window, and over a store that shows the latest versions, reads are those of registers, whatever MD5s
+/// collide.
 pub fn unwindowed_is_legal()
     ensures { UnwindowedIsLegal }
 {}

@@ -49,8 +49,8 @@ ghost use Rattle.sb_laws.specs.Traces.{
   zeros_calls,
 };
 
-/// An old version is shown at 1,000 and at 1,100, after a put that ended at 1,000, and the new one is read at 1,200: the
-/// store is stale for more than 100 ms, and the history is legal.
+/// An old version is shown at 1,000 and at 1,100, after a put that ended at 1,000, and the new one is read at 1,200:
+/// the store is stale for more than 100 ms, and the history is legal.
 pub fn old_version_shown_twice()
     ensures within { IsStaleWithin 1 a_at_0 (both 101) shown_twice }
     ensures not_within { IsStaleWithin 1 a_at_0 (both 100) shown_twice → ⊥ }
@@ -98,7 +98,8 @@ pub fn flush_waits_for_its_put()
 
 /// A history in which a stale answer is refused meets all premises of the laws, with zero marks and without.
 pub fn stale_answer_refused()
-    ensures { (marks : Bool) → md5 (zeros 2) ≢ md5 six → IsSoundHistory small spaced_by_5 (nothing_found marks) all_zeros (both 5) stale_refused }
+    ensures { (marks : Bool) → md5 (zeros 2) ≢ md5 six
+        → IsSoundHistory small spaced_by_5 (nothing_found marks) all_zeros (both 5) stale_refused }
 {}
 
 /// Why no write stands while a GET of its block is open: a history that follows all other rules, and isn't legal.

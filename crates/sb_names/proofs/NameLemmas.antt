@@ -1,5 +1,7 @@
 -- Facts on the names of objects.
-use Rattle.std.proofs.Common.{◌≡◌, ℕ, zero, suc, ◌+◌, ◌-◌, ◌<◌, ◌^◌, Bool, true, false, List, [], ◌++◌, length, take, drop, Some, Ok, refl, subst, sym, ap, ◌∙◌, arith, append_assoc, length-append, length-take, codes}
+use Rattle.std.proofs.Common.{◌≡◌, ℕ, zero, suc, ◌+◌, ◌-◌, ◌<◌, ◌^◌, Bool, true, false, List, [], ◌++◌, length, take}
+use Rattle.std.proofs.Common.{drop, Some, Ok, refl, subst, sym, ap, ◌∙◌, arith, append_assoc, length-append}
+use Rattle.std.proofs.Common.{length-take, codes}
 use Rattle.std.specs.Prelude.{◌↔◌, Option, Result, Err, MatchResult}
 use Rattle.std.specs.Int.{w32, to_be_bytes, from_be_bytes}
 use Rattle.std.specs.Result.{is_err}
@@ -38,7 +40,8 @@ pub decode_sized-digits_of : (block : ℕ) → decode_sized (digits_of block) 4 
 decode_sized-digits_of block = decode_sized-encode_lower (to_be_bytes w32 block) 4 refl (IsBytes-to_be_bytes block)
 
 -- no two blocks have the same digits
-pub digits_differ : (block other : ℕ) → block < 2 ^ 32 → other < 2 ^ 32 → digits_of block ≡ digits_of other → block ≡ other
+pub digits_differ : (block other : ℕ) → block < 2 ^ 32 → other < 2 ^ 32 → digits_of block ≡ digits_of other
+    → block ≡ other
 digits_differ block other h k e =
     let same : Ok (to_be_bytes w32 block) ≡ Ok (to_be_bytes w32 other) =
     sym (decode_sized-digits_of block) ∙ ap (λ (text : List ℕ). decode_sized text 4) e ∙ decode_sized-digits_of other in
@@ -47,7 +50,8 @@ digits_differ block other h k e =
     ∙ from_be_bytes-to_be_bytes_4 other k
 
 -- a name ends with its block's digits
-pub last_digits : (prefix : List ℕ) (hashed : Bool) (block : ℕ) (name : List ℕ) → name ≡ object_name_of prefix block hashed
+pub last_digits : (prefix : List ℕ) (hashed : Bool) (block : ℕ) (name : List ℕ)
+    → name ≡ object_name_of prefix block hashed
     → drop (length name - 8) name ≡ digits_of block
 last_digits prefix false block name e =
     let len = length-digits_of block in
@@ -63,7 +67,8 @@ names_differ prefix hashed name block other h k =
 
 -- the length of a name behind its prefix
 pub length-object_name_of : (prefix : List ℕ) (hashed : Bool) (block : ℕ)
-    → length (object_name_of prefix block hashed) ≡ (length prefix + (elim hashed as (λ _. ℕ) [ true ↦ 17 | false ↦ 8 ]))
+    → length (object_name_of prefix block hashed) ≡ (length prefix +
+    (elim hashed as (λ _. ℕ) [ true ↦ 17 | false ↦ 8 ]))
 length-object_name_of prefix false block =
     let d = length-digits_of block in
     let a = length-append prefix (digits_of block) in
@@ -109,7 +114,8 @@ pub hashed_parts : (text : List ℕ) (block : ℕ) → IsNameOf [] true text blo
     → (take 8 text ≡ hash_of block) × (drop 8 text ≡ codes "-" ++ digits_of block)
 hashed_parts text block h =
     let len = length-hash_of block in
-    let whole : text ≡ hash_of block ++ (codes "-" ++ digits_of block) = h.text ∙ append_assoc (hash_of block) (codes "-") (digits_of block) in (
+    let whole : text ≡ hash_of block ++ (codes "-" ++ digits_of block) = h.text
+    ∙ append_assoc (hash_of block) (codes "-") (digits_of block) in (
       ap (λ (t : List ℕ). take 8 t) whole ∙ take_at (hash_of block) (codes "-" ++ digits_of block) 8 len,
       ap (λ (t : List ℕ). drop 8 t) whole ∙ drop_at (hash_of block) (codes "-" ++ digits_of block) 8 len,
     )
@@ -122,7 +128,8 @@ no_room text block short h =
     omega (arith, n, s)
 
 -- a text without a dash behind eight bytes is no hashed name
-pub no_dash : (text behind : List ℕ) (block : ℕ) → behind ≡ drop 8 text → ((rest : List ℕ) → behind ≡ codes "-" ++ rest → ⊥)
+pub no_dash : (text behind : List ℕ) (block : ℕ) → behind ≡ drop 8 text
+    → ((rest : List ℕ) → behind ≡ codes "-" ++ rest → ⊥)
     → IsNameOf [] true text block → ⊥
 no_dash text behind block split never h = never (digits_of block) (split ∙ (hashed_parts text block h).1)
 
@@ -136,7 +143,8 @@ digits_of_hashed text behind digits block split dash h = record {
 
 -- a hash, a dash and digits are a hashed name
 pub hashed_from_parts : (text front behind digits : List ℕ) (block : ℕ) → front ≡ take 8 text → behind ≡ drop 8 text
-    → behind ≡ codes "-" ++ digits → front ≡ hash_of block → IsNameOf [] false digits block → IsNameOf [] true text block
+    → behind ≡ codes "-" ++ digits → front ≡ hash_of block → IsNameOf [] false digits block
+    → IsNameOf [] true text block
 hashed_from_parts text front behind digits block fs bs dash hash h =
     let whole : text ≡ hash_of block ++ (codes "-" ++ digits_of block) =
     sym (take-append-drop 8 text) ∙ ap (λ (x : List ℕ). x ++ drop 8 text) (sym fs ∙ hash)
@@ -190,9 +198,11 @@ pub placed_more : (old out new name piece : List ℕ) (at end : ℕ) → out ≡
     → (new ≡ (name ++ piece) ++ drop end old) × (end ≡ length (name ++ piece))
 placed_more old out new name piece at end before len put ends =
     let front : take at out ≡ name = ap (λ (o : List ℕ). take at o) before ∙ take_at name (drop at old) at (sym len) in
-    let behind : drop at out ≡ drop at old = ap (λ (o : List ℕ). drop at o) before ∙ drop_at name (drop at old) at (sym len) in
+    let behind : drop at out ≡ drop at old = ap (λ (o : List ℕ). drop at o) before
+    ∙ drop_at name (drop at old) at (sym len) in
     let rest : drop end out ≡ drop end old =
-    rw ends (sym (drop-drop (length piece) at out) ∙ ap (λ (o : List ℕ). drop (length piece) o) behind ∙ drop-drop (length piece) at old) in (
+    rw ends (sym (drop-drop (length piece) at out) ∙ ap (λ (o : List ℕ). drop (length piece) o) behind
+    ∙ drop-drop (length piece) at old) in (
       put ∙ ap (λ (o : List ℕ). o ++ piece ++ drop end out) front ∙ ap (λ (o : List ℕ). name ++ piece ++ o) rest,
       ends ∙ ap (λ (n : ℕ). n + length piece) len ∙ sym (length-append name piece),
     )

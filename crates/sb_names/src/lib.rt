@@ -3,8 +3,8 @@
 //! | Object | Name |
 //! |---|---|
 //! | a block | the prefix and the block's number in eight lower-case hex digits |
-//! | a block, in the hashed form | the prefix, the first eight lower-case hex digits of the MD5 of those digits, `-`, and the digits |
-//! | the token | the prefix and `s3backer-mounted` |
+//! | a block, in the hashed form | the prefix, the first eight lower-case hex digits of the MD5 of those digits, `-`,
+//! and the digits | | the token | the prefix and `s3backer-mounted` |
 #![tactic(auto)]
 
 mod digits;

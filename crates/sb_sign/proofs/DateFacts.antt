@@ -34,11 +34,13 @@ pub year_since_1970 : (d : Date) → pos 0 ≤ℤ epoch_day d → pos 0 ≤ℤ d
 unfolding first_day
 year_since_1970 d since =
     by_lt_z d.year (pos 1970)
-    (λ lt. let before = epoch_day-lt d first_day (inl lt) in absurd (omega (arith, signed_arith, before, epoch_day-first_day, since)))
+    (λ lt. let before = epoch_day-lt d first_day (inl lt) in absurd
+    (omega (arith, signed_arith, before, epoch_day-first_day, since)))
     (λ ge. omega (arith, signed_arith))
 
 -- a moment from 1970 on has a day from then on
-pub day_since_1970 : (dt : DateTime) (moment : ℤ) → civil_nanos dt ≡ moment *ℤ pos 1_000_000_000 → pos 0 ≤ℤ moment → pos 0 ≤ℤ epoch_day dt.date
+pub day_since_1970 : (dt : DateTime) (moment : ℤ) → civil_nanos dt ≡ moment *ℤ pos 1_000_000_000 → pos 0 ≤ℤ moment
+    → pos 0 ≤ℤ epoch_day dt.date
 day_since_1970 dt moment same since = omega (arith, signed_arith, civil_nanos-parts dt)
 
 -- a number that isn't negative is its size
@@ -52,7 +54,8 @@ pub civil_when : (dt : DateTime) (moment : ℤ) → civil_nanos dt ≡ moment *�
 civil_when dt moment same since =
     let year : pos (unsigned_abs dt.date.year) ≡ dt.date.year = size_of_positive dt.date.year since in
     let D : ℤ → Type 0 = λ y. IsCivilDate y dt.date.month dt.date.day in
-    let seconds : moment ≡ epoch_day dt.date *ℤ pos 86_400 +ℤ pos (time_seconds dt.time) = omega (arith, signed_arith, civil_nanos-parts dt) in
+    let seconds : moment ≡ epoch_day dt.date *ℤ pos 86_400 +ℤ pos (time_seconds dt.time) =
+    omega (arith, signed_arith, civil_nanos-parts dt) in
     record {
       date = subst D (sym year) (civil dt.date);
       hour = omega arith;

@@ -1,5 +1,6 @@
 -- Facts on encoded bytes.
-use Rattle.std.proofs.Common.{◌≡◌, ◌≢◌, ℕ, zero, suc, ◌+◌, ◌<◌, ◌≤◌, Bool, false, ◌||◌, ◌==◌, not, refl, List, [], ◌∷◌, ◌++◌, take, get_or, length, sym, ap, ◌∙◌, inl, inr, arith, append_assoc}
+use Rattle.std.proofs.Common.{◌≡◌, ◌≢◌, ℕ, zero, suc, ◌+◌, ◌<◌, ◌≤◌, Bool, false, ◌||◌, ◌==◌, not, refl, List, [], ◌∷◌}
+use Rattle.std.proofs.Common.{◌++◌, take, get_or, length, sym, ap, ◌∙◌, inl, inr, arith, append_assoc}
 use Rattle.std.specs.Prelude.{map, if◌then◌else◌}
 use Rattle.std.specs.Char.{is_ascii_alphanumeric}
 use Rattle.std.specs.List.{flat_map, join_with_byte}
@@ -53,7 +54,8 @@ percent_encode-set set kept inside outside (b ∷ rest) =
 pub percent_encode-path : (set : AsciiSet) → ((b : ℕ) → b < 128 → contains set b ≡ not (is_unreserved b || (b == 47)))
     → (bytes : List ℕ) → percent_encode set bytes ≡ encoded_path_of bytes
 unfolding encoded_path_of
-percent_encode-path set inside = percent_encode-set set (λ b. is_unreserved b || (b == 47)) inside (λ b large. grind (arith, nat_tests))
+percent_encode-path set inside = percent_encode-set set (λ b. is_unreserved b || (b == 47)) inside
+    (λ b large. grind (arith, nat_tests))
 
 pub percent_encode-value : (set : AsciiSet) → ((b : ℕ) → b < 128 → contains set b ≡ not (is_unreserved b))
     → (bytes : List ℕ) → percent_encode set bytes ≡ encoded_value_of bytes
@@ -82,7 +84,8 @@ joined_next c f (p ∷ rest) pair zero later within is = absurd (omega arith)
 joined_next c f (p ∷ rest) pair (suc j) later within is =
     let more = take_more (p ∷ rest) (suc j) pair within in
     sym (
-    ap (λ (front : List Pair). join_with_byte c (map f front)) (more ∙ ap (λ (q : Pair). take (suc j) (p ∷ rest) ++ q ∷ []) (sym is))
+    ap (λ (front : List Pair). join_with_byte c (map f front))
+    (more ∙ ap (λ (q : Pair). take (suc j) (p ∷ rest) ++ q ∷ []) (sym is))
     ∙ ap (λ (pieces : List (List ℕ)). join_with_byte c pieces) (map-append f (take (suc j) (p ∷ rest)) (pair ∷ []))
     ∙ join_with_byte-push c (f pair) (f p) (map f (take j rest))
     )

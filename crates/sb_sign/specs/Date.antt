@@ -1,5 +1,6 @@
 -- The date of a request.
-use Rattle.std.specs.Prelude.{◌≡◌, ℕ, ◌+◌, ◌*◌, ◌/◌, ◌%◌, ◌<◌, List, [], ◌∷◌, ◌++◌, codes, ℤ, pos, unsigned_abs, ◌+ℤ◌, ◌*ℤ◌, ◌<ℤ◌, ◌⊎◌}
+use Rattle.std.specs.Prelude.{◌≡◌, ℕ, ◌+◌, ◌*◌, ◌/◌, ◌%◌, ◌<◌, List, [], ◌∷◌, ◌++◌, codes, ℤ, pos, unsigned_abs, ◌+ℤ◌}
+use Rattle.std.specs.Prelude.{◌*ℤ◌, ◌<ℤ◌, ◌⊎◌}
 use Rattle.jiff_core.specs.declared.civil.datetime.DateTime.{DateTime}
 use Rattle.jiff_core.specs.Calendar.{IsCivilDate, days_from_civil}
 
@@ -32,7 +33,8 @@ pub record IsCivilOf (moment : ℤ) (civil : Civil) : Type 0 where
 -- YYYYMMDDTHHMMSSZ
 abbrev pub date_text_of : Civil → List ℕ
 date_text_of civil =
-    two_digits (civil.year / 100) ++ two_digits civil.year ++ two_digits civil.month ++ two_digits civil.day ++ codes "T"
+    two_digits (civil.year / 100) ++ two_digits civil.year ++ two_digits civil.month ++ two_digits civil.day
+    ++ codes "T"
     ++ two_digits civil.hour ++ two_digits civil.minute ++ two_digits civil.second ++ codes "Z"
 
 -- the day and the time of day of a `DateTime`

@@ -31,6 +31,7 @@ authorization_of credentials request date =
     authorization_under credentials request date (signed_headers_of request.signed.items request.payload date)
 
 -- a request is signed at a moment
-pub record IsAuthorized (credentials : Credentials) (request : Request) (moment : ℤ) (signed : Authorization) : Type 0 where
+pub record IsAuthorized (credentials : Credentials) (request : Request) (moment : ℤ)
+    (signed : Authorization) : Type 0 where
   pub date : IsDateOf moment signed.date
   pub header : signed.header ≡ authorization_of credentials request signed.date

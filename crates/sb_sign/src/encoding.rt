@@ -2,7 +2,13 @@
 
 ghost use Rattle.std.specs.Prelude.{◌≡◌, ℕ, ◌<◌, ◌||◌, ◌==◌, not, IfOk, OnOk, ◌++◌};
 ghost use Rattle.percent_encoding.specs.AsciiSet.{contains};
-ghost use Rattle.sb_sign.specs.Encoding.{content_md5_of, encoded_pair_of, encoded_path_of, encoded_query_of, is_unreserved};
+ghost use Rattle.sb_sign.specs.Encoding.{
+  content_md5_of,
+  encoded_pair_of,
+  encoded_path_of,
+  encoded_query_of,
+  is_unreserved,
+};
 ghost use Rattle.std.specs.String.{string_bytes};
 
 use crate::request::Pair;
@@ -12,8 +18,8 @@ use percent_encoding::{AsciiSet, NON_ALPHANUMERIC, percent_encode};
 use sb_base::Text;
 use std::alloc::{AllocError, Global};
 
-/// A path as it is sent and signed: every byte but letters, digits, `-`, `.`, `_`, `~` and `/` is `%` and two upper-case
-/// hex digits.
+/// A path as it is sent and signed: every byte but letters, digits, `-`, `.`, `_`, `~` and `/` is `%` and two
+/// upper-case hex digits.
 pub fn encoded_path(alloc: Global, path: &[u8]) -> Result<Text, AllocError>
     ensures { IfOk result (λ text. text ≡ encoded_path_of path.now) }
 {

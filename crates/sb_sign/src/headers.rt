@@ -2,7 +2,14 @@
 
 ghost use Rattle.std.specs.Prelude.{◌≡◌, IfOk, OnOk, ◌++◌, ◌∷◌, []};
 ghost use Rattle.std.specs.List.{flat_map};
-ghost use Rattle.sb_sign.specs.Requests.{canonical_request_of, header_line, names_of, place_of_name, signed_headers_of, with_header};
+ghost use Rattle.sb_sign.specs.Requests.{
+  canonical_request_of,
+  header_line,
+  names_of,
+  place_of_name,
+  signed_headers_of,
+  with_header,
+};
 
 use crate::encoding::{encoded_path, encoded_query};
 use crate::request::{Pair, Request};
@@ -15,7 +22,8 @@ pub(crate) fn signed_headers(
     request: &Request,
     date: &[u8],
 ) -> Result<Vec<Pair>, AllocError>
-    ensures { IfOk result (λ headers. headers.items ≡ signed_headers_of request.now.signed.items request.now.payload date.now) }
+    ensures { IfOk result (λ headers. headers.items ≡ signed_headers_of request.now.signed.items request.now.payload
+        date.now) }
 {
     let mut headers = Vec::new(alloc);
     for header in &request.signed {
@@ -44,7 +52,8 @@ fn add_header(
     name: &[u8],
     value: &[u8],
 ) -> Result<(), AllocError>
-    ensures { OnOk result (headers.new.items ≡ with_header headers.old.items (record { name = name.now; value = value.now })) }
+    ensures { OnOk result (headers.new.items ≡ with_header headers.old.items
+        (record { name = name.now; value = value.now })) }
 {
     let header = Pair {
         name: Text::of(alloc, name)?,

@@ -29,7 +29,8 @@ pub struct Request {
     /// The query before it is encoded, in byte order of the names, which is the order in which it is sent.
     pub query: Vec<Pair>,
     /// The headers that are signed, in any order, with names in lower case, but for `x-amz-content-sha256` and
-    /// `x-amz-date`, which `Signer::sign` adds: `host`, for a PUT `content-md5`, and those that begin with `x-amz-meta-`.
+    /// `x-amz-date`, which `Signer::sign` adds: `host`, for a PUT `content-md5`, and those that begin with
+    /// `x-amz-meta-`.
     pub signed: Vec<Pair>,
     /// The SHA-256 of the body.
     pub payload: [u8; 32],

@@ -83,7 +83,8 @@ impl Signer {
     ) -> Result<Authorization, SignFault>
         ensures signed { IfOk result (IsAuthorized self.now request.now moment) }
         ensures moment { (result ≡ Err (SignFault.MomentOutOfRange moment)) ↔ HasNoDate moment }
-        ensures fault { IfErr result (λ fault. (fault ≡ SignFault.MomentOutOfRange moment) ⊎ (fault ≡ SignFault.Memory)) }
+        ensures fault { IfErr result (λ fault. (fault ≡ SignFault.MomentOutOfRange moment)
+            ⊎ (fault ≡ SignFault.Memory)) }
     {
         let Some(date) = date_of(moment) else {
             return Err(SignFault::MomentOutOfRange(moment));

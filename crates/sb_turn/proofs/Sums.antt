@@ -1,5 +1,6 @@
 -- Totals over the seats.
-use Rattle.std.proofs.Common.{◌≡◌, ℕ, zero, suc, ◌+◌, ◌≤◌, ◌≢◌, List, [], ◌∷◌, ◌++◌, set, sym, refl, ap, arith, eqb, eq-eqb, ne_eqb}
+use Rattle.std.proofs.Common.{◌≡◌, ℕ, zero, suc, ◌+◌, ◌≤◌, ◌≢◌, List, [], ◌∷◌, ◌++◌, set, sym, refl, ap, arith, eqb}
+use Rattle.std.proofs.Common.{eq-eqb, ne_eqb}
 use mathlib.Core.Option.{some, some-injective, some-ne-none}
 use lib.ListN.{get_elem?}
 use Rattle.sb_turn.specs.Views.{one_if, total, times}
@@ -29,12 +30,16 @@ module _ {A : Type 0} (f : A → ℕ) where
   total_at (x ∷ xs) zero v e = let is : f x ≡ f v = ap f (some-injective x v e) in omega arith
   total_at (x ∷ xs) (suc i) v e = let more = total_at xs i v e in omega arith
 
-  pub total_two : (l : List A) (i j : ℕ) (v w : A) → i ≢ j → get_elem? l i ≡ some v → get_elem? l j ≡ some w → f v + f w ≤ total f l
+  pub total_two : (l : List A) (i j : ℕ) (v w : A) → i ≢ j → get_elem? l i ≡ some v → get_elem? l j ≡ some w
+      → f v + f w ≤ total f l
   total_two [] i j v w ne e h = absurd (some-ne-none v (sym e))
   total_two (x ∷ xs) zero zero v w ne e h = absurd (ne refl)
-  total_two (x ∷ xs) zero (suc j) v w ne e h = let is : f x ≡ f v = ap f (some-injective x v e) in let more = total_at xs j w h in omega arith
-  total_two (x ∷ xs) (suc i) zero v w ne e h = let is : f x ≡ f w = ap f (some-injective x w h) in let more = total_at xs i v e in omega arith
-  total_two (x ∷ xs) (suc i) (suc j) v w ne e h = let more = total_two xs i j v w (λ k. ne (ap suc k)) e h in omega arith
+  total_two (x ∷ xs) zero (suc j) v w ne e h = let is : f x ≡ f v = ap f (some-injective x v e) in let more =
+      total_at xs j w h in omega arith
+  total_two (x ∷ xs) (suc i) zero v w ne e h = let is : f x ≡ f w = ap f (some-injective x w h) in let more =
+      total_at xs i v e in omega arith
+  total_two (x ∷ xs) (suc i) (suc j) v w ne e h = let more =
+      total_two xs i j v w (λ k. ne (ap suc k)) e h in omega arith
 
   pub total_zero : (l : List A) → ((j : ℕ) (d : A) → get_elem? l j ≡ some d → f d ≡ 0) → total f l ≡ 0
   total_zero [] h = refl

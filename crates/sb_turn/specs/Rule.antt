@@ -8,7 +8,8 @@ use lib.ListN.{get_elem?}
 use Rattle.atomic_table.specs.Table.{State}
 use Rattle.sb_turn.specs.declared.view.View.{View}
 use Rattle.sb_turn.specs.Histories.{entries_of_pass, IsPast, ArePasts}
-use Rattle.sb_turn.specs.Views.{times, total, HasTurn, AccountsMatch, count, accounts, claims, ticket_count_of, ticket_held_of, entry_made_of}
+use Rattle.sb_turn.specs.Views.{times, total, HasTurn, AccountsMatch, count, accounts, claims, ticket_count_of}
+use Rattle.sb_turn.specs.Views.{ticket_held_of, entry_made_of}
 
 module _ {E B : Type 0} where
   -- some seat has the turn

@@ -2,7 +2,19 @@
 ghost use Rattle.std.specs.Prelude.{◌≡◌, ℕ, ◌<◌, ◌+◌, ◌^◌, [], ◌∷◌, ◌++◌, ◌⊎◌, MatchBool, None};
 ghost use Rattle.sb_turn.specs.Histories.{entries_of_pass, IsPast, ArePasts};
 ghost use Rattle.sb_turn.specs.Views.{with_reserved, IsConsistent};
-ghost use Rattle.sb_turn.specs.Passes.{seen, mine, joined, number, last_given, handed_out, IsPassOf, IsFree, HasSplit, IsNewFrom, HasJoined};
+ghost use Rattle.sb_turn.specs.Passes.{
+  seen,
+  mine,
+  joined,
+  number,
+  last_given,
+  handed_out,
+  IsPassOf,
+  IsFree,
+  HasSplit,
+  IsNewFrom,
+  HasJoined,
+};
 
 use crate::pass::Pass;
 use crate::stands::Stands;

@@ -1,7 +1,19 @@
 //! How a lock is made.
 ghost use Rattle.std.specs.Prelude.{◌≡◌, ℕ, ◌<◌, [], IfOk, Some};
 ghost use Rattle.sb_turn.specs.Histories.{entries_of_pass};
-ghost use Rattle.sb_turn.specs.Passes.{seen, mine, joined, number, last_given, handed_out, opening, base_of, looks_of, IsPassOf, IsFree};
+ghost use Rattle.sb_turn.specs.Passes.{
+  seen,
+  mine,
+  joined,
+  number,
+  last_given,
+  handed_out,
+  opening,
+  base_of,
+  looks_of,
+  IsPassOf,
+  IsFree,
+};
 
 use crate::pass::Pass;
 use crate::stands::Stands;

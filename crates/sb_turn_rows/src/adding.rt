@@ -1,7 +1,17 @@
 //! One turn at the counter.
 ghost use Rattle.std.specs.Prelude.{◌≡◌, ℕ, ◌%◌, ◌^◌, List, [], ◌∷◌, Some};
 ghost use Rattle.sb_turn.specs.Histories.{IsPast};
-ghost use Rattle.sb_turn.specs.Passes.{seen, mine, number, base_of, IsWholePass, IsPassOf, IsFree, HoldsTurn, IsSamePass};
+ghost use Rattle.sb_turn.specs.Passes.{
+  seen,
+  mine,
+  number,
+  base_of,
+  IsWholePass,
+  IsPassOf,
+  IsFree,
+  HoldsTurn,
+  IsSamePass,
+};
 ghost use Rattle.sb_turn_rows.specs.Amounts.{total_added};
 
 use crate::counter::Counter;

@@ -1,5 +1,6 @@
 -- That a window goes with the puts that began and ended.
-use Rattle.std.proofs.Common.{◌≡◌, ◌≢◌, ℕ, ◌≤◌, ◌+◌, ◌⊎◌, inl, inr, Bool, true, false, cond, eqb, List, [], ◌∷◌, Option, Some, None, IsTrue, refl, sym, ap, subst, ◌∙◌, arith}
+use Rattle.std.proofs.Common.{◌≡◌, ◌≢◌, ℕ, ◌≤◌, ◌+◌, ◌⊎◌, inl, inr, Bool, true, false, cond, eqb, List, [], ◌∷◌, Option}
+use Rattle.std.proofs.Common.{Some, None, IsTrue, refl, sym, ap, subst, ◌∙◌, arith}
 use Rattle.std.specs.Ordering.{nat_cmp}
 use Rattle.std.specs.Cmp.{nat_cmp_total}
 use Rattle.std.specs.FinMap.{get, insert, entries, get-insert, get-empty}
@@ -13,7 +14,9 @@ use Rattle.sb_window.specs.declared.last_put.LastPut.{LastPut}
 use Rattle.sb_window.specs.LastPuts.{LastPuts, end_of, is_end_kept, is_kept, if_kept, kept_puts, earliest_end}
 use Rattle.sb_window.specs.declared.window.PutWhen.TheVariants.{Now, At}
 use Rattle.sb_window.specs.Windows.{WindowState, when_by, when_after, when_full, is_open, expected_by, expected_after}
-use Rattle.sb_window.specs.Events.{PutEvent, End, end_put, last_put_of, NewRepresents, BeginRepresents, EndRepresents, PurgeRepresents, ExpectsTheLastPut, IsOver, IsSpaced, PutsAreSpaced, LiesAhead, WaitsLieAhead}
+use Rattle.sb_window.specs.Events.{PutEvent, End, end_put, last_put_of, NewRepresents, BeginRepresents, EndRepresents}
+use Rattle.sb_window.specs.Events.{PurgeRepresents, ExpectsTheLastPut, IsOver, IsSpaced, PutsAreSpaced, LiesAhead}
+use Rattle.sb_window.specs.Events.{WaitsLieAhead}
 use Rattle.sb_window.proofs.KeptLemmas.{kept_earlier}
 use Rattle.sb_window.proofs.WindowLemmas.{get_kept, entries_kept}
 

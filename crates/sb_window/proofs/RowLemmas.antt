@@ -1,5 +1,6 @@
 -- Rows by rising keys: what is found, and what an edit of a row is.
-use Rattle.std.proofs.Common.{◌≡◌, ℕ, zero, suc, ◌<◌, ◌≤◌, Bool, true, false, T, List, [], ◌∷◌, length, get_or, set, Some, None, IsTrue, cond, refl, sym, subst, arith}
+use Rattle.std.proofs.Common.{◌≡◌, ℕ, zero, suc, ◌<◌, ◌≤◌, Bool, true, false, T, List, [], ◌∷◌, length, get_or, set}
+use Rattle.std.proofs.Common.{Some, None, IsTrue, cond, refl, sym, subst, arith}
 use Rattle.std.specs.List.{insert, filter}
 use Rattle.std.specs.Ordering.{nat_cmp}
 use Rattle.std.specs.FinMap.{find, put, is_sorted}

@@ -1,10 +1,12 @@
 -- What the rows of a table are as a finite map.
-use Rattle.std.proofs.Common.{◌≡◌, ℕ, ◌<◌, ◌≤◌, List, [], length, get_or, None, Result, Ok, Err, IfOk, IfErr, IsTrue, refl, sym, ap, subst, ◌∙◌, arith}
+use Rattle.std.proofs.Common.{◌≡◌, ℕ, ◌<◌, ◌≤◌, List, [], length, get_or, None, Result, Ok, Err, IfOk, IfErr, IsTrue}
+use Rattle.std.proofs.Common.{refl, sym, ap, subst, ◌∙◌, arith}
 use Rattle.std.specs.List.{filter}
 use Rattle.std.specs.List.Sorted.{IsSearchInRange, IsBinarySearchResult, IsNonDecreasingBy}
 use Rattle.std.specs.Ordering.{nat_cmp, ordering_index}
 use Rattle.std.specs.Cmp.{nat_cmp_total}
-use Rattle.std.specs.FinMap.{find, put, is_sorted, get, len, entries, insert, from_sorted, entries-from_sorted, get-from_sorted, len-entries, same_entries_map, entries-insert, empty, empty_of_len}
+use Rattle.std.specs.FinMap.{find, put, is_sorted, get, len, entries, insert, from_sorted, entries-from_sorted}
+use Rattle.std.specs.FinMap.{get-from_sorted, len-entries, same_entries_map, entries-insert, empty, empty_of_len}
 use Rattle.std.specs.FinMap.Entries.{is_sorted-put}
 use Rattle.std.proofs.lemmas.Cmp.{ranked}
 use Rattle.std.proofs.lemmas.List.Sorted.{IsNonDecreasingBy-from_default}
@@ -12,7 +14,8 @@ use Rattle.std.proofs.lemmas.Bool.Decides.{nat_tests}
 use Rattle.sb_window.specs.declared.last_put.LastPut.{LastPut}
 use Rattle.sb_window.specs.LastPuts.{LastPuts, is_kept, kept_puts}
 use Rattle.sb_window.specs.Tables.{Table, IsTable, IsRowOf, IsGapFor}
-use Rattle.sb_window.proofs.RowLemmas.{from_true, to_true, rises, found_at, written_at, absent_gap, inserted_gap, sorted_filter, filter_short}
+use Rattle.sb_window.proofs.RowLemmas.{from_true, to_true, rises, found_at, written_at, absent_gap, inserted_gap}
+use Rattle.sb_window.proofs.RowLemmas.{sorted_filter, filter_short}
 
 -- some default
 no_put : ℕ × LastPut

@@ -1,19 +1,24 @@
 -- What a window answers, and that what it keeps fits.
-use Rattle.std.proofs.Common.{◌≡◌, ◌≢◌, ℕ, ◌<◌, ◌≤◌, ◌+◌, ◌^◌, Bool, true, false, cond, [], length, Option, Some, None, IsTrue, refl, sym, ap, subst, ◌∙◌, arith}
+use Rattle.std.proofs.Common.{◌≡◌, ◌≢◌, ℕ, ◌<◌, ◌≤◌, ◌+◌, ◌^◌, Bool, true, false, cond, [], length, Option, Some, None}
+use Rattle.std.proofs.Common.{IsTrue, refl, sym, ap, subst, ◌∙◌, arith}
 use Rattle.std.specs.Prelude.{IfSome, nat_lt}
 use Rattle.std.specs.List.{filter}
 use Rattle.std.specs.Ordering.{nat_cmp}
 use Rattle.std.specs.Cmp.{nat_cmp_total}
-use Rattle.std.specs.FinMap.{FinMap, get, len, entries, insert, contains_key, entries_sorted, entries-from_sorted, len-entries, get-entries, same_entries_map, entries-insert, len-insert, get-insert, empty, len-empty}
+use Rattle.std.specs.FinMap.{FinMap, get, len, entries, insert, contains_key, entries_sorted, entries-from_sorted}
+use Rattle.std.specs.FinMap.{len-entries, get-entries, same_entries_map, entries-insert, len-insert, get-insert, empty}
+use Rattle.std.specs.FinMap.{len-empty}
 use Rattle.std.proofs.lemmas.Bool.Decides.{nat_tests}
 use Rattle.sb_window.specs.declared.last_put.LastPut.{LastPut}
 use Rattle.sb_window.specs.declared.window.PutWhen.TheVariants.{Now}
-use Rattle.sb_window.specs.LastPuts.{LastPuts, end_of, is_end_kept, is_kept, kept_puts, earliest_end, EndBy, AllEndBy, if_kept}
+use Rattle.sb_window.specs.LastPuts.{LastPuts, end_of, is_end_kept, is_kept, kept_puts, earliest_end, EndBy, AllEndBy}
+use Rattle.sb_window.specs.LastPuts.{if_kept}
 use Rattle.sb_window.specs.Windows.{WindowState, window_of, IsWindow, put_when, when_new, when_by, when_full, is_open}
 use Rattle.sb_window.specs.Tables.{Table}
 use Rattle.sb_window.proofs.TableLemmas.{entries_rows, no_rows}
 use Rattle.sb_window.proofs.RowLemmas.{from_true, to_true, sorted_filter, filter_short}
-use Rattle.sb_window.proofs.KeptLemmas.{all_kept, fewer_kept, found_goes, found_kept, found_by, filter_by, later_by, put_by}
+use Rattle.sb_window.proofs.KeptLemmas.{all_kept, fewer_kept, found_goes, found_kept, found_by, filter_by, later_by}
+use Rattle.sb_window.proofs.KeptLemmas.{put_by}
 
 pub entries_kept : (time now : ℕ) (puts : LastPuts)
     → entries (kept_puts time now puts) ≡ filter (λ e. is_kept time now e.1) (entries puts)

@@ -1,5 +1,6 @@
 -- Begun and ended puts, and the window that goes with them.
-use Rattle.std.specs.Prelude.{ℕ, zero, suc, ◌≡◌, ◌≢◌, ◌<◌, ◌≤◌, ◌+◌, ◌⊎◌, Bool, nat_eq, if◌then◌else◌, List, [], ◌∷◌, Option, Some, None, is_some, IsTrue}
+use Rattle.std.specs.Prelude.{ℕ, zero, suc, ◌≡◌, ◌≢◌, ◌<◌, ◌≤◌, ◌+◌, ◌⊎◌, Bool, nat_eq, if◌then◌else◌, List, [], ◌∷◌}
+use Rattle.std.specs.Prelude.{Option, Some, None, is_some, IsTrue}
 use Rattle.std.specs.FinMap.{get, len}
 use Rattle.sb_base.specs.declared.settings.Settings.{Settings}
 use Rattle.sb_window.specs.declared.last_put.Ending.{Ending}
@@ -7,7 +8,8 @@ use Rattle.sb_window.specs.declared.last_put.LastPut.{LastPut}
 use Rattle.sb_window.specs.declared.window.PutWhen.{PutWhen}
 use Rattle.sb_window.specs.declared.window.PutWhen.TheVariants.{Now, Busy, At, Full}
 use Rattle.sb_window.specs.LastPuts.{if_kept}
-use Rattle.sb_window.specs.Windows.{WindowState, new_window, put_when, begun, ended, purged, is_open, expected, expected_by}
+use Rattle.sb_window.specs.Windows.{WindowState, new_window, put_when, begun, ended, purged, is_open, expected}
+use Rattle.sb_window.specs.Windows.{expected_by}
 
 -- the begin of a put of a block with its digest, and its end with its reading and outcome
 pub data PutEvent : Type 0 where

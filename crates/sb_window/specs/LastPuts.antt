@@ -1,5 +1,6 @@
 -- The last puts of blocks, and for how long they are kept.
-use Rattle.std.specs.Prelude.{ℕ, ◌≤◌, ◌+◌, min, Bool, true, ◌||◌, nat_eq, nat_lt, if◌then◌else◌, List, [], ◌∷◌, Option, Some, None}
+use Rattle.std.specs.Prelude.{ℕ, ◌≤◌, ◌+◌, min, Bool, true, ◌||◌, nat_eq, nat_lt, if◌then◌else◌, List, [], ◌∷◌, Option}
+use Rattle.std.specs.Prelude.{Some, None}
 use Rattle.std.specs.List.{filter}
 use Rattle.std.specs.Ordering.{nat_cmp}
 use Rattle.std.specs.FinMap.{FinMap, entries, from_sorted}

@@ -1,6 +1,15 @@
 //! The laws of a window. Each function does nothing; its contract is the law.
 
-ghost use Rattle.sb_window.specs.Events.{NewRepresents, BeginRepresents, EndRepresents, PurgeRepresents, ExpectsTheLastPut, PutsAreSpaced, PutsFit, WaitsLieAhead};
+ghost use Rattle.sb_window.specs.Events.{
+  NewRepresents,
+  BeginRepresents,
+  EndRepresents,
+  PurgeRepresents,
+  ExpectsTheLastPut,
+  PutsAreSpaced,
+  PutsFit,
+  WaitsLieAhead,
+};
 
 /// A new window goes with no event.
 pub fn new_represents()

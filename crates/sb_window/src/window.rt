@@ -6,7 +6,17 @@ ghost use Rattle.sb_base.specs.Shapes.{IsSound};
 ghost use Rattle.sb_base.specs.SettingsTable.{IsChecked};
 ghost use Rattle.sb_window.specs.declared.window.PutWhen.TheVariants.{Now};
 ghost use Rattle.sb_window.specs.LastPuts.{EndBy, end_of};
-ghost use Rattle.sb_window.specs.Windows.{new_window, put_when, when_new, when_after, begun, ended, purged, is_open, expected};
+ghost use Rattle.sb_window.specs.Windows.{
+  new_window,
+  put_when,
+  when_new,
+  when_after,
+  begun,
+  ended,
+  purged,
+  is_open,
+  expected,
+};
 
 use crate::last_put::{Ending, LastPut};
 use crate::table::PutTable;

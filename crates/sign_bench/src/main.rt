@@ -1,8 +1,8 @@
 //! Signs a request or hashes a body again and again, for a measurement of the time that it takes.
 //!
 //! The three words are the work, which is `sign`, `sha256` or `md5`, the bytes of the body, and how often it is done.
-//! What is printed is the last header or the last digest. A byte of each digest goes into the body of the next, and each
-//! signature is of another second, so that none can be left out.
+//! What is printed is the last header or the last digest. A byte of each digest goes into the body of the next, and
+//! each signature is of another second, so that none can be left out.
 #![tactic(auto)]
 
 mod rounds;

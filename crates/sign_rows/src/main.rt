@@ -40,7 +40,11 @@ fn number(word: Option<String>) -> anyhow::Result<u64> {
 
 /// The signature of a case.
 fn signed(alloc: Global, case: &Case) -> Result<Authorization, SignFault>
-    ensures { IfOk result (IsAuthorized (record { id = case.now.id; secret = case.now.secret; region = case.now.region })
+    ensures { IfOk result (IsAuthorized (record {
+      id = case.now.id;
+      secret = case.now.secret;
+      region = case.now.region;
+    })
         case.now.request case.now.moment) }
 {
     match Signer::new(

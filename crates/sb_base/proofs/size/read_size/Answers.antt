@@ -7,4 +7,5 @@ pub split_at-requires : goal.split_at-requires
 split_at-requires c = rw c.digit_count.ensures (prefix_len-le-length is_ascii_digit c.as_bytes-bytes.result.now)
 
 pub decimal-requires : goal.decimal-requires
-decimal-requires c = front_passes c.as_bytes-bytes.result.now c.split_at.result.0.now c.digit_count.result c.digit_count.ensures c.split_at.ensures.front
+decimal-requires c = front_passes c.as_bytes-bytes.result.now c.split_at.result.0.now c.digit_count.result
+    c.digit_count.ensures c.split_at.ensures.front

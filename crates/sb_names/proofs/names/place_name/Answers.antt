@@ -12,13 +12,17 @@ returns-clause-placed c =
     let end : c.put-end.result ≡ length prefix = omega (arith, c.put-end.ensures.end, c.as_bytes.ensures.len) in
     elim c.if-hashed.branch [
       | then-hashed w ↦
-          let one = placed_more old c.put-end.new.out w.put-end-then-hashed.new.out prefix w.hash.result c.put-end.result
+          let one = placed_more old c.put-end.new.out w.put-end-then-hashed.new.out prefix w.hash.result
+          c.put-end.result
           w.put-end-then-hashed.result front end w.put-end-then-hashed.ensures.text w.put-end-then-hashed.ensures.end in
-          let two = placed_more old w.put-end-then-hashed.new.out w.put-end-then-hashed-2.new.out (prefix ++ w.hash.result) (codes "-")
+          let two = placed_more old w.put-end-then-hashed.new.out w.put-end-then-hashed-2.new.out
+          (prefix ++ w.hash.result) (codes "-")
           w.put-end-then-hashed.result w.put-end-then-hashed-2.result one.0 one.1 w.put-end-then-hashed-2.ensures.text
           w.put-end-then-hashed-2.ensures.end in
-          let three = placed_more old c.if-hashed.out c.put.new.out (prefix ++ w.hash.result ++ codes "-") c.digits.result
-          c.if-hashed.end c.put.result (cc (w.out-is, w.end-is, two.0)) (w.end-is ∙ two.1) c.put.ensures.text c.put.ensures.end in
+          let three = placed_more old c.if-hashed.out c.put.new.out
+          (prefix ++ w.hash.result ++ codes "-") c.digits.result
+          c.if-hashed.end c.put.result (cc (w.out-is, w.end-is, two.0))
+          (w.end-is ∙ two.1) c.put.ensures.text c.put.ensures.end in
           rw (w.if-hashed.true, ← w.hash.ensures, ← c.digits.ensures) three.0
       | else-hashed w ↦
           let last = placed_more old c.if-hashed.out c.put.new.out prefix c.digits.result c.if-hashed.end c.put.result

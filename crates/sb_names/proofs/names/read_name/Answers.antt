@@ -14,12 +14,16 @@ returns-in_err-rest c block =
 
 pub returns-then-hashed : goal.returns-then-hashed
 returns-then-hashed c =
-    let is = strip_prefix_is Decides-eqb c.args.name.now c.as_bytes.result.now (Some c.in_ok-rest.rest) c.in_ok-rest.ensures.cases in
+    let is = strip_prefix_is Decides-eqb c.args.name.now c.as_bytes.result.now
+    (Some c.in_ok-rest.rest) c.in_ok-rest.ensures.cases in
     let whole = is ∙ ap (λ (p : List ℕ). p ++ c.in_ok-rest.rest.now) c.as_bytes.ensures.value in
-    read_behind c.args.prefix.now c.args.hashed true c.args.name.now c.in_ok-rest.rest.now c.read_hashed.result c.if-hashed.true whole c.read_hashed.ensures
+    read_behind c.args.prefix.now c.args.hashed true c.args.name.now c.in_ok-rest.rest.now c.read_hashed.result
+    c.if-hashed.true whole c.read_hashed.ensures
 
 pub returns-else-hashed : goal.returns-else-hashed
 returns-else-hashed c =
-    let is = strip_prefix_is Decides-eqb c.args.name.now c.as_bytes.result.now (Some c.in_ok-rest.rest) c.in_ok-rest.ensures.cases in
+    let is = strip_prefix_is Decides-eqb c.args.name.now c.as_bytes.result.now
+    (Some c.in_ok-rest.rest) c.in_ok-rest.ensures.cases in
     let whole = is ∙ ap (λ (p : List ℕ). p ++ c.in_ok-rest.rest.now) c.as_bytes.ensures.value in
-    read_behind c.args.prefix.now c.args.hashed false c.args.name.now c.in_ok-rest.rest.now c.read_digits.result c.if-hashed.false whole c.read_digits.ensures
+    read_behind c.args.prefix.now c.args.hashed false c.args.name.now c.in_ok-rest.rest.now c.read_digits.result
+    c.if-hashed.false whole c.read_digits.ensures

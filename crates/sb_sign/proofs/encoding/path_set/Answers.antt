@@ -4,4 +4,5 @@ use Rattle.sb_sign.proofs.encoding.path_set.Goals as goal
 
 pub returns : goal.returns
 returns c =
-    contains_without c.value_set.result c.remove.result 47 is_unreserved c.remove.ensures.removed c.remove.ensures.others c.value_set.ensures
+    contains_without c.value_set.result c.remove.result 47 is_unreserved c.remove.ensures.removed
+    c.remove.ensures.others c.value_set.ensures

@@ -16,12 +16,20 @@ loop-i-preserved c =
     let before : c.loop-i.names.items ≡ join_with_byte 59 (map name (take c.loop-i.i headers)) = c.loop-i.invariant in
     elim c.if-i-gt0.branch [
       | then-i-gt0+in_ok-push w ↦
-          let next = joined_next 59 name headers header c.loop-i.i w.if-i-gt0.true c.loop-i-test.true c.index-headers-i.is in
-          rw (c.in_ok-extend_from_slice.ensures.items, c.bytes.ensures, w.names-is, w.in_ok-push.ensures.items, before) next
+          let next = joined_next 59 name headers header c.loop-i.i w.if-i-gt0.true c.loop-i-test.true
+          c.index-headers-i.is in
+          rw (
+            c.in_ok-extend_from_slice.ensures.items,
+            c.bytes.ensures,
+            w.names-is,
+            w.in_ok-push.ensures.items,
+            before,
+          ) next
       | else-i-gt0 w ↦
           let none : c.loop-i.i ≡ 0 = omega arith in
           let first = joined_first 59 name headers header c.loop-i.i none c.loop-i-test.true c.index-headers-i.is in
-          let empty : c.loop-i.names.items ≡ [] = before ∙ ap (λ (k : ℕ). join_with_byte 59 (map name (take k headers))) none in
+          let empty : c.loop-i.names.items ≡ [] = before ∙ ap
+          (λ (k : ℕ). join_with_byte 59 (map name (take k headers))) none in
           rw (c.in_ok-extend_from_slice.ensures.items, c.bytes.ensures, w.names-is, empty) first
     ]
 

@@ -9,8 +9,16 @@ pub returns : goal.returns
 unfolding signed_headers_of
 returns c =
     let signed = c.args.request.now.signed.items in
-    let len : length c.deref-header-items.result.now ≡ length signed = ap (λ (items : List Pair). length items) c.deref-header-items.ensures.value in
+    let len : length c.deref-header-items.result.now ≡ length signed =
+    ap (λ (items : List Pair). length items) c.deref-header-items.ensures.value in
     let all : c.loop-header.header-index ≡ length signed = omega (arith, len) in
-    let before : c.loop-header.headers.items ≡ fold with_header [] (take c.loop-header.header-index signed) = c.loop-header.invariant in
+    let before : c.loop-header.headers.items ≡ fold with_header [] (take c.loop-header.header-index signed) =
+    c.loop-header.invariant in
     let whole : c.loop-header.headers.items ≡ fold with_header [] signed = before ∙ rw (all, take-length signed) refl in
-    rw (c.in_ok-add_header-3.ensures, c.in_ok-add_header-2.ensures, whole, c.as_bytes.ensures.value, c.in_ok-payload.ensures) refl
+    rw (
+      c.in_ok-add_header-3.ensures,
+      c.in_ok-add_header-2.ensures,
+      whole,
+      c.as_bytes.ensures.value,
+      c.in_ok-payload.ensures,
+    ) refl

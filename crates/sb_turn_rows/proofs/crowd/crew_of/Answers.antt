@@ -5,7 +5,8 @@ use Rattle.sb_turn_rows.specs.Workers.{IsReady, HasTask}
 use Rattle.sb_turn_rows.proofs.crowd.crew_of.Goals as goal
 
 pub loop-preserved : goal.loop-preserved
-loop-preserved g c = let ready = IsReady c.args.turn.now in let task = HasTask c.args.turns in let before = c.loop.crew.items in
+loop-preserved g c = let ready = IsReady c.args.turn.now in let task = HasTask c.args.turns in let before =
+    c.loop.crew.items in
     let worker : Worker = record { pass = c.split-pass.result; amount = 1; turns = c.args.turns } in
     let gained : c.push.new.self.items ≡ before ++ worker ∷ [] = search rules in
     let new_is_ready : ready worker = search rules in (

@@ -19,7 +19,9 @@ returns-clause-three g c = let d = c.join.new.pass.seat.me.0 in let n : ℕ = c.
     three d n more consistent number reserved opened mine joined handed
 
 pub returns-clause-first : goal.returns-clause-first
-returns-clause-first g c = let added = c.add.new.pass.seat.me.0.seen in let by_one = c.join-one.result.0.seat.me.0.seen in
+returns-clause-first g c = let added = c.add.new.pass.seat.me.0.seen in let by_one =
+    c.join-one.result.0.seat.me.0.seen in
     let start : added ≡ (1, 3) ∷ [] = search rules in
     let went_on : IsPast added by_one = search rules in
-    IsPast-trans ((1, 3) ∷ []) by_one c.join.new.pass.seat.me.0.seen (subst (λ s. IsPast s by_one) start went_on) c.join.ensures.seen.0
+    IsPast-trans ((1, 3) ∷ []) by_one c.join.new.pass.seat.me.0.seen
+    (subst (λ s. IsPast s by_one) start went_on) c.join.ensures.seen.0

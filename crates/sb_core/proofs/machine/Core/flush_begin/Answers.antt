@@ -10,4 +10,5 @@ returns-clause-represents c past s =
     let later : core.reading ≤ now = omega arith in
     let rises : c.saturating_add-self.result
     ≡ min (suc core.epoch) last_number = omega (arith, c.saturating_add-self.ensures) in
-    rw c.max-self.ensures (flush_begins core.geometry core.settings core.reading core.epoch c.saturating_add-self.result now core.state core.body.items past c.args.pass later rises s)
+    rw c.max-self.ensures (flush_begins core.geometry core.settings core.reading core.epoch
+    c.saturating_add-self.result now core.state core.body.items past c.args.pass later rises s)

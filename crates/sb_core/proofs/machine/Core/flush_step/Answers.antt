@@ -23,7 +23,8 @@ returns-else-stamp-mark-clause-represents c past began s =
     let later : core.reading ≤ now = omega arith in
     let covers : c.args.mark < c.in-Dirty.stamp = omega arith in
     let none : HasNoneCovered core.state c.args.mark = rw c.in-Dirty.is covers in
-    rw c.max-self.ensures (flush_ends core.geometry core.settings core.reading core.epoch now core.state core.body.items past c.args.pass c.args.mark later began (none_covered core.state c.args.mark none) s)
+    rw c.max-self.ensures (flush_ends core.geometry core.settings core.reading core.epoch now core.state
+    core.body.items past c.args.pass c.args.mark later began (none_covered core.state c.args.mark none) s)
 
 pub returns-else-stamp-mark-2-clause-represents : goal.returns-else-stamp-mark-2-clause-represents
 returns-else-stamp-mark-2-clause-represents c past began s =
@@ -32,7 +33,8 @@ returns-else-stamp-mark-2-clause-represents c past began s =
     let later : core.reading ≤ now = omega arith in
     let covers : c.args.mark < c.in-Writing.stamp = omega arith in
     let none : HasNoneCovered core.state c.args.mark = rw c.in-Writing.is covers in
-    rw c.max-self.ensures (flush_ends core.geometry core.settings core.reading core.epoch now core.state core.body.items past c.args.pass c.args.mark later began (none_covered core.state c.args.mark none) s)
+    rw c.max-self.ensures (flush_ends core.geometry core.settings core.reading core.epoch now core.state
+    core.body.items past c.args.pass c.args.mark later began (none_covered core.state c.args.mark none) s)
 
 pub returns-else-stamp-mark-3-clause-represents : goal.returns-else-stamp-mark-3-clause-represents
 returns-else-stamp-mark-3-clause-represents c past began s =
@@ -41,4 +43,5 @@ returns-else-stamp-mark-3-clause-represents c past began s =
     let later : core.reading ≤ now = omega arith in
     let covers : c.args.mark < c.in-Writing2.stamp = omega arith in
     let none : HasNoneCovered core.state c.args.mark = rw c.in-Writing2.is covers in
-    rw c.max-self.ensures (flush_ends core.geometry core.settings core.reading core.epoch now core.state core.body.items past c.args.pass c.args.mark later began (none_covered core.state c.args.mark none) s)
+    rw c.max-self.ensures (flush_ends core.geometry core.settings core.reading core.epoch now core.state
+    core.body.items past c.args.pass c.args.mark later began (none_covered core.state c.args.mark none) s)

@@ -6,7 +6,11 @@ use Rattle.sb_core.proofs.machine.Core.new.Goals as goal
 
 pub returns-clause-represents : goal.returns-clause-represents
 returns-clause-represents c =
-    let base : HasOneBlock c.args.settings = record { cache_size = c.requires.one; window = c.requires.no_window; spacing = (c.requires.checked.times c.requires.no_window).0 } in
+    let base : HasOneBlock c.args.settings = record {
+      cache_size = c.requires.one;
+      window = c.requires.no_window;
+      spacing = (c.requires.checked.times c.requires.no_window).0;
+    } in
     record {
       base = base;
       sized = search rules;

@@ -9,7 +9,8 @@ returns-then-holds-clause-represents c past s =
     let now = max c.args.now core.reading in
     let later : core.reading ≤ now = omega arith in
     let held = held_is core.state core.body.items c.args.part.block (sym c.holds.ensures ∙ c.if-holds.true) in
-    rw c.max-self.ensures (reads core.geometry core.settings core.reading core.epoch now core.state core.body.items past c.args.pass c.args.part _ later held c.copy.ensures s)
+    rw c.max-self.ensures (reads core.geometry core.settings core.reading core.epoch now core.state core.body.items
+    past c.args.pass c.args.part _ later held c.copy.ensures s)
 
 pub returns-in-Missing-clause-represents : goal.returns-in-Missing-clause-represents
 returns-in-Missing-clause-represents c past s =
@@ -25,7 +26,8 @@ returns-in-Clean-clause-represents c past s =
     let core = c.args.self.now in
     let now = max c.args.now core.reading in
     let later : core.reading ≤ now = omega arith in
-    rw c.max-self.ensures (drops core.geometry core.settings core.reading core.epoch now core.body.items past c.args.pass c.in-Clean.block later (rw c.in-Clean.is at s))
+    rw c.max-self.ensures (drops core.geometry core.settings core.reading core.epoch now core.body.items past
+    c.args.pass c.in-Clean.block later (rw c.in-Clean.is at s))
 
 pub returns-in-Dirty-clause-represents : goal.returns-in-Dirty-clause-represents
 returns-in-Dirty-clause-represents c past s =

@@ -18,7 +18,16 @@ returns-then-holds-clause-represents c past s =
     ≡ core.geometry.block_size = rw (c.overwrite.ensures.body, c.overwrite.ensures.geometry) at kept in
     let written = held_written core.geometry core.settings core.reading core.epoch now core.body.items past c.args.pass
     part c.args.bytes.now core.state held later fits sized s in
-    rw (c.written-self.ensures, c.overwrite.ensures.geometry, c.overwrite.ensures.settings, c.overwrite.ensures.reading, c.overwrite.ensures.epoch, c.overwrite.ensures.state, c.overwrite.ensures.body, c.max-self.ensures) written
+    rw (
+      c.written-self.ensures,
+      c.overwrite.ensures.geometry,
+      c.overwrite.ensures.settings,
+      c.overwrite.ensures.reading,
+      c.overwrite.ensures.epoch,
+      c.overwrite.ensures.state,
+      c.overwrite.ensures.body,
+      c.max-self.ensures,
+    ) written
 
 pub returns-then-part-self-clause-represents : goal.returns-then-part-self-clause-represents
 returns-then-part-self-clause-represents c past s =
@@ -46,7 +55,8 @@ returns-in-Clean-clause-represents c past s =
     let core = c.args.self.now in
     let now = max c.args.now core.reading in
     let later : core.reading ≤ now = omega arith in
-    rw c.max-self.ensures (drops core.geometry core.settings core.reading core.epoch now core.body.items past c.args.pass c.in-Clean.block later (rw c.in-Clean.is at s))
+    rw c.max-self.ensures (drops core.geometry core.settings core.reading core.epoch now core.body.items past
+    c.args.pass c.in-Clean.block later (rw c.in-Clean.is at s))
 
 pub returns-in-Dirty-clause-represents : goal.returns-in-Dirty-clause-represents
 returns-in-Dirty-clause-represents c past s =

@@ -9,8 +9,10 @@ pub returns : goal.returns
 unfolding hmac_of
 returns c key k =
     let block = filled (short_key key) in
-    let same_inner : c.unwrap-inner.result ≡ c.args.self.now.inner = rw c.unwrap-inner.ensures at c.clone.ensures.cases in
-    let same_outer : c.unwrap-outer.result ≡ c.args.self.now.outer = rw c.unwrap-outer.ensures at c.clone-2.ensures.cases in
+    let same_inner : c.unwrap-inner.result ≡ c.args.self.now.inner =
+    rw c.unwrap-inner.ensures at c.clone.ensures.cases in
+    let same_outer : c.unwrap-outer.result ≡ c.args.self.now.outer =
+    rw c.unwrap-outer.ensures at c.clone-2.ensures.cases in
     let Inner : Sha256 → Type 0 = λ s. Holds256 s (padded 54 block) in
     let Outer : Sha256 → Type 0 = λ s. Holds256 s (padded 92 block) in
     let inner = c.finalize.ensures _ (c.update.ensures _ (subst Inner (sym same_inner) k.inner)) in

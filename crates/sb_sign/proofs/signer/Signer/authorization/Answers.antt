@@ -30,7 +30,12 @@ returns c =
     let signature : string_bytes c.in_ok-signature.signature
     ≡ encode_lower (hmac_of (signing_key_of c.args.self.now date)
     (text_to_sign_of date (scope_of c.args.self.now.region date) (canonical_request_of request headers))) =
-    c.in_ok-signature.ensures ∙ rw (c.hmac_sha256.ensures, c.signing_key.ensures, c.deref-6.ensures.value, signed) refl in
+    c.in_ok-signature.ensures ∙ rw (
+      c.hmac_sha256.ensures,
+      c.signing_key.ensures,
+      c.deref-6.ensures.value,
+      signed,
+    ) refl in
     c.in_ok-text.ensures
     ∙ rw (
       c.bytes-2.ensures,

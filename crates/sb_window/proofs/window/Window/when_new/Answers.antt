@@ -5,7 +5,8 @@ use Rattle.sb_window.specs.Windows.{when_full}
 use Rattle.sb_window.proofs.KeptLemmas.{earliest_by}
 use Rattle.sb_window.proofs.WindowLemmas.{new_now, new_full, new_past, some_past, some_kept}
 use Rattle.sb_window.proofs.window.Window.when_new.Goals as goal
-use Rattle.sb_window.proofs.window.Window.when_new.Goals.{else-self-ne0-via-then-self-ne0+else-until-now, else-self-ne0-via-else-self-ne0}
+use Rattle.sb_window.proofs.window.Window.when_new.Goals.{else-self-ne0-via-then-self-ne0+else-until-now}
+use Rattle.sb_window.proofs.window.Window.when_new.Goals.{else-self-ne0-via-else-self-ne0}
 
 pub returns-then-len-room : goal.returns-then-len-room
 returns-then-len-room c =
