@@ -3,3 +3,4 @@ pub mod Streams
 pub mod Calls
 pub mod Benches
 pub mod Wires
+pub mod Folders
