@@ -1,8 +1,9 @@
 #!/usr/bin/env python3
 """Runs sessions of the built program and compares bytes, statuses and peak memory. Usage: sessions.py PROGRAM"""
-import random, resource, subprocess, sys
+import os, random, shutil, subprocess, sys, tempfile
 
 program = sys.argv[1]
+memory = "/dev/shm" if os.access("/dev/shm", os.W_OK) else None
 GREETING = bytes.fromhex("4e42444d41474943 49484156454f5054 0003")
 EXPORT_NAME = bytes.fromhex("49484156454f5054 00000001 00000000")
 NO_ZEROES = bytes.fromhex("00000003")
@@ -39,9 +40,15 @@ def reply(cookie, body):
     return bytes.fromhex("67446698 00000000") + cookie.to_bytes(8, "big") + body
 
 
-def run(words, given):
-    done = subprocess.run([program, *words], input=given, capture_output=True, timeout=60)
-    return done.returncode, done.stdout, done.stderr
+def run(size, given):
+    """A session of an empty disk over a directory that isn't there yet: status, output and the line on standard error."""
+    top = tempfile.mkdtemp(dir=memory)
+    try:
+        words = ["--stdio", "--test", f"--size={size}", os.path.join(top, "disk")]
+        done = subprocess.run([program, *words], input=given, capture_output=True, timeout=60)
+        return done.returncode, done.stdout, done.stderr
+    finally:
+        shutil.rmtree(top)
 
 
 def export(size):
@@ -58,7 +65,7 @@ def expect(name, found, wanted):
         print(f"{name}: found {found!r}, wanted {wanted!r}")
 
 
-SMALL = ["--stdio", "--size=64k", "memory"]
+SMALL = "64k"
 OPEN = NO_ZEROES + EXPORT_NAME
 
 expect("a disconnected session", run(SMALL, OPEN + DISC), (0, export(65536), b""))
@@ -80,13 +87,13 @@ expect("ranges at the end", run(SMALL, OPEN + write(1, 65535, b"B") + write(2, 6
 expect("requests that are not known", run(SMALL, OPEN + request(TRIM, 1, 0, 512) + request(WRITE_ZEROES, 2, 0, 512)
                                           + request(99, 3, 0, 0) + request(READ, 4, 0, 512, flags=1) + DISC),
        (0, export(65536) + b"".join(error(EINVAL, cookie) for cookie in (1, 2, 3, 4)), b""))
-expect("a read that is too long", run(["--stdio", "--size=64m", "memory"], OPEN + read(1, 0, LARGEST + 1) + DISC),
+expect("a read that is too long", run("64m", OPEN + read(1, 0, LARGEST + 1) + DISC),
        (0, export(67108864) + error(EINVAL, 1), b""))
-expect("a write that is too long", run(["--stdio", "--size=64m", "memory"], OPEN + request(WRITE, 1, 0, LARGEST + 1)),
+expect("a write that is too long", run("64m", OPEN + request(WRITE, 1, 0, LARGEST + 1)),
        (7, export(67108864), refused))
-expect("no size", run(["--stdio", "--size=64q", "memory"], b""), (2, b"", b"s3backer: usage: --size: not a size: 64q\n"))
-expect("an empty disk", run(["--stdio", "--size=0", "memory"], b"")[0], 2)
-expect("no words", run([], b"")[0], 2)
+expect("no size", run("64q", b""), (2, b"", b"s3backer: usage: --size: not a size: 64q\n"))
+expect("an empty disk", run("0", b"")[0], 2)
+expect("no words", subprocess.run([program], input=b"", capture_output=True, timeout=60).returncode, 2)
 
 
 def model(given, size):
@@ -141,7 +148,7 @@ for place in range(len(SEVERAL)):
         changed = SEVERAL[:place] + bytes([value]) + SEVERAL[place + 1:]
         expect(f"a session with byte {place} made {value}", run(SMALL, changed), model(changed, 65536))
 LONGEST = OPEN + write(1, 4096, random.Random(1).randbytes(LARGEST)) + read(2, 4096, LARGEST) + read(3, 0, LARGEST + 1) + DISC
-expect("the longest write and read", run(["--stdio", "--size=64m", "memory"], LONGEST) == model(LONGEST, 67108864), True)
+expect("the longest write and read", run("64m", LONGEST) == model(LONGEST, 67108864), True)
 
 
 def random_session(seed, size, count):
@@ -177,12 +184,15 @@ for seed in range(6):
 
 
 def peak(size):
-    before = resource.getrusage(resource.RUSAGE_CHILDREN).ru_maxrss
+    top = tempfile.mkdtemp(dir=memory)
     child = subprocess.Popen(["/usr/bin/env", "python3", "-c",
-                              "import resource, subprocess, sys; subprocess.run(sys.argv[1:], input=sys.stdin.buffer.read(), stdout=subprocess.DEVNULL); "
+                              "import resource, subprocess, sys; "
+                              "subprocess.run(sys.argv[1:], input=sys.stdin.buffer.read(), stdout=subprocess.DEVNULL); "
                               "print(resource.getrusage(resource.RUSAGE_CHILDREN).ru_maxrss)",
-                              program, "--stdio", f"--size={size}", "memory"], stdin=subprocess.PIPE, stdout=subprocess.PIPE)
+                              program, "--stdio", "--test", f"--size={size}", os.path.join(top, "disk")],
+                             stdin=subprocess.PIPE, stdout=subprocess.PIPE)
     out, _ = child.communicate(OPEN + read(1, 0, 512) + DISC, timeout=60)
+    shutil.rmtree(top)
     return int(out)
 
 

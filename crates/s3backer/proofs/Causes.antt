@@ -9,7 +9,6 @@ use Rattle.sb_base.specs.declared.entry.Entry.{Entry}
 use Rattle.sb_world.specs.Told.{Rose}
 use Rattle.sb_world.specs.declared.link.Call.{Call}
 use Rattle.sb_world.specs.declared.link.LinkFault.{LinkFault}
-use Rattle.sb_world.specs.declared.link.LinkFault.TheVariants as link
 use Rattle.sb_nbd.specs.declared.wanted.Wanted.{Wanted}
 use Rattle.sb_nbd.specs.declared.wanted.TheConstants.{READ, WRITE, FLUSH}
 use Rattle.sb_nbd.specs.declared.request.TheConstants.{MAX_PAYLOAD}
@@ -17,14 +16,14 @@ use Rattle.sb_nbd.specs.Requests.{Request}
 use Rattle.sb_nbd.specs.declared.reply.TheConstants.{EINVAL, ENOSPC, EIO, ENOMEM}
 use Rattle.sb_crew.specs.declared.calls.CallFault.{CallFault}
 use Rattle.sb_crew.specs.declared.calls.CallFault.TheVariants.{StoreFault, Memory}
-use Rattle.sb_crew.specs.Outcomes.{Outcome, HasCause, Stops, FlushEnds, fault_of}
+use Rattle.sb_crew.specs.Outcomes.{Outcome, HasCause, Stops, FlushEnds}
 use Rattle.sb_crew.specs.Counts.{is_failure, failures, Counts}
 use Rattle.sb_crew.specs.Joins.{failures_join}
 use Rattle.sb_session.specs.declared.end.SessionEnd.{SessionEnd}
 use Rattle.sb_session.specs.declared.end.SessionEnd.TheVariants as end
 use Rattle.sb_session.specs.Goals.{refusal, passes_end, goal_of, body_of}
 use Rattle.sb_session.specs.Answers.{AnswersBy, IsAnswer, error_of}
-use Rattle.sb_session.specs.Transcripts.{Exchange, IsAnswered, IsTranscript, calls_of}
+use Rattle.sb_session.specs.Transcripts.{Exchange, IsTranscript, calls_of}
 use Rattle.sb_session.specs.Sessions.{Served}
 use Rattle.s3backer.specs.Headline.{flush_status, run_status, NoneFailed}
 

@@ -1,23 +1,23 @@
 -- From what a session did to what a run promises.
-use Rattle.std.proofs.Common.{ℕ, ◌≡◌, List, [], ◌∷◌, ◌++◌, Option, None, Result, Ok, Err, refl, sym, ◌∙◌, ap, subst}
+use Rattle.std.proofs.Common.{ℕ, ◌≡◌, List, [], ◌++◌, Option, Some, None, Result, Ok, Err, refl, sym, ◌∙◌, ap, subst}
 use Rattle.std.proofs.Common.{append-nil, ◌⊎◌}
 use Rattle.sb_base.specs.declared.geometry.Geometry.{Geometry}
 use Rattle.sb_base.specs.declared.settings.Settings.{Settings}
 use Rattle.sb_base.specs.declared.entry.Entry.{Entry}
-use Rattle.sb_world.specs.Told.{Rose, CountsFaults}
+use Rattle.sb_world.specs.Told.{CountsFaults}
 use Rattle.sb_world.specs.declared.clock.Tick.{Tick}
 use Rattle.sb_world.specs.declared.link.Call.{Call}
 use Rattle.sb_history.specs.AccessRules.{FollowsAccessRules}
 use Rattle.sb_history.specs.CachePolicy.{FollowsCachePolicy}
 use Rattle.sb_history.specs.ClockTrace.{ClockTrace}
 use Rattle.sb_history.specs.Laws.{UnwindowedIsLegal, UnwindowedFlushes, UnwindowedSurvivesCrash}
-use Rattle.sb_history.specs.Contents.{Start}
-use Rattle.sb_history.specs.Soundness.{IsUnwindowed}
+use Rattle.sb_history.specs.Requests.{RequestLog}
 use Rattle.sb_core.specs.declared.machine.Core.{Core}
-use Rattle.sb_core.specs.Represents.{Represents, geometry_of, settings_of, nothing_found}
+use Rattle.sb_core.specs.Represents.{Represents, geometry_of, nothing_found}
 use Rattle.sb_crew.specs.declared.calls.CallFault.{CallFault}
 use Rattle.sb_crew.specs.declared.calls.CallFault.TheVariants.{StoreFault, Memory}
-use Rattle.sb_crew.specs.Outcomes.{Outcome, outcomes_of, flush_of, FlushEnds, FlushDoes}
+use Rattle.sb_crew.specs.Outcomes.{Outcome, outcomes_of, FlushEnds, FlushDoes}
+use Rattle.sb_crew.specs.Names.{Naming, name_of}
 use Rattle.sb_crew.specs.Runs.{Did, only_caller}
 use Rattle.sb_crew.specs.Joins.{did_join}
 use Rattle.sb_crew.proofs.OutcomeLemmas.{outcomes_join}
@@ -28,39 +28,40 @@ use Rattle.sb_session.specs.Sessions.{SessionTold}
 use Rattle.s3backer.proofs.Causes.{none_failed, ended_well}
 use Rattle.s3backer.specs.declared.settings.TheConstants.{SETTINGS}
 use Rattle.s3backer.specs.Fresh.{IsFresh}
+use Rattle.s3backer.specs.Plans.{PlanParts, naming_of}
 use Rattle.s3backer.specs.Headline.{IsHistory, IsSaved, ServesSession, run_status, run_line, ComplainsOf}
 
--- what was done to a fresh core is a disk's history
-history_of : (geometry : Geometry) (core core' : Core) (tape tape' : Option (List Entry))
-    (log log' : Option (List Call))
-    (faults faults' : ℕ) (clock clock' : Option (List Tick)) (entries : List Entry) (calls : List Call)
-    → UnwindowedIsLegal → UnwindowedFlushes → UnwindowedSurvivesCrash → IsFresh geometry core
-    → Did core core' tape tape' log log' faults faults' clock clock' entries calls
-    → IsHistory geometry tape tape' log log' clock clock' entries calls
-history_of geometry core core' tape tape' log log' faults faults' clock clock' entries calls legal flushes survives
-    fresh did =
+-- what was done to a fresh core under the plan's names is a disk's history
+history_of : (plan : PlanParts) (names names' : Naming) (core core' : Core) (tape tape' : Option (List Entry))
+    (log log' : Option (List Call)) (faults faults' : ℕ) (clock clock' : Option (List Tick)) (entries : List Entry)
+    (calls : List Call) → UnwindowedIsLegal → UnwindowedFlushes → UnwindowedSurvivesCrash → IsFresh plan.geometry core
+    → names ≡ naming_of plan
+    → Did names names' core core' tape tape' log log' faults faults' clock clock' entries calls
+    → IsHistory plan tape tape' log log' clock clock' entries calls
+history_of plan names names' core core' tape tape' log log' faults faults' clock clock' entries calls legal flushes
+    survives fresh named did =
     let after = subst (λ (past : List Entry). Represents core' past) (append-nil entries)
     (did.runs.history [] tt fresh.represents) in
-    let shape : core'.geometry ≡ geometry = did.runs.base.geometry ∙ fresh.geometry_is in
+    let shape : core'.geometry ≡ plan.geometry = did.runs.base.geometry ∙ fresh.geometry_is in
     let set : core'.settings ≡ SETTINGS = did.runs.base.settings ∙ fresh.settings_is in
-    let rules = subst (λ (s : Settings). FollowsAccessRules geometry s nothing_found entries) set
+    let rules = subst (λ (s : Settings). FollowsAccessRules plan.geometry s nothing_found entries) set
     (subst (λ (g : Geometry). FollowsAccessRules g core'.settings nothing_found entries) shape after.rules) in
-    let policy = subst (λ (s : Settings). FollowsCachePolicy geometry s nothing_found entries) set
+    let policy = subst (λ (s : Settings). FollowsCachePolicy plan.geometry s nothing_found entries) set
     (subst (λ (g : Geometry). FollowsCachePolicy g core'.settings nothing_found entries) shape after.policy) in
     record {
       of_pass = did.runs.of_pass;
       tape = did.runs.told;
       asked = did.asked.gained;
-      requests = rw fresh.geometry_is at did.requests;
+      requests = subst (λ (n : Naming). RequestLog (name_of n) (Some n.meta) entries calls) named did.requests;
       readings = did.runs.ticks;
       clock = did.runs.readings;
-      trace = subst (λ
-          (s : Settings). ClockTrace geometry s only_caller [] entries None did.runs.ticks) fresh.settings_is
+      trace = subst (λ (s : Settings). ClockTrace plan.geometry s only_caller [] entries None did.runs.ticks)
+          fresh.settings_is
           (subst (λ (g : Geometry). ClockTrace g core.settings only_caller [] entries None did.runs.ticks)
           fresh.geometry_is (did.runs.trace [] tt fresh.represents));
       rules = rules;
       policy = policy;
-      legal = λ start sized latest. legal geometry SETTINGS nothing_found start entries
+      legal = λ start sized latest. legal plan.geometry SETTINGS nothing_found start entries
           (record {
             sized = sized;
             off = refl;
@@ -69,7 +70,7 @@ history_of geometry core core' tape tape' log log' faults faults' clock clock' e
             policy = policy;
             latest = latest;
           });
-      durable = λ start sized latest. flushes geometry SETTINGS nothing_found start entries
+      durable = λ start sized latest. flushes plan.geometry SETTINGS nothing_found start entries
           (record {
             sized = sized;
             off = refl;
@@ -78,7 +79,7 @@ history_of geometry core core' tape tape' log log' faults faults' clock clock' e
             policy = policy;
             latest = latest;
           });
-      survives = λ start sized latest. survives geometry SETTINGS nothing_found start entries
+      survives = λ start sized latest. survives plan.geometry SETTINGS nothing_found start entries
           (record {
             sized = sized;
             off = refl;
@@ -116,40 +117,40 @@ flushed_at_zero end.WriteFault flushed zero = absurd (cc)
 flushed_at_zero end.Spent flushed zero = absurd (cc)
 
 -- a session over a fresh core and the flush after it are what a run promises
-pub session_serves : {L C R S : Type 0} (log : L → Option (List Call)) (link_faults : L → ℕ) (ticks : C
-    → Option (List Tick))
-    (left : R → Option (List ℕ)) (read_faults : R → ℕ) (held : S → Option (List ℕ)) (write_faults : S → ℕ)
-    (geometry : Geometry) (core mid core' : Core) (link link1 link' : L) (clock clock1 clock' : C) (input input' : R)
+pub session_serves : {L C R S : Type 0} (log : L → Option (List Call)) (link_faults : L → ℕ)
+    (ticks : C → Option (List Tick)) (left : R → Option (List ℕ)) (read_faults : R → ℕ)
+    (held : S → Option (List ℕ)) (write_faults : S → ℕ) (plan : PlanParts) (names names1 names' : Naming)
+    (core mid core' : Core) (link link1 link' : L) (clock clock1 clock' : C) (input input' : R)
     (output output' errors errors' : S) (tape tape1 tape' : Option (List Entry)) (ended : SessionEnd)
     (flushed : Result Unit CallFault) (status : ℕ)
-    → UnwindowedIsLegal → UnwindowedFlushes → UnwindowedSurvivesCrash → IsFresh geometry core
-    → SessionTold geometry TRANSMISSION_FLAGS (left input) (left input') (held output) (held output')
-    (Did core mid tape tape1 (log link) (log link1) (link_faults link) (link_faults link1) (ticks clock) (ticks clock1))
-    ended
+    → UnwindowedIsLegal → UnwindowedFlushes → UnwindowedSurvivesCrash → IsFresh plan.geometry core
+    → names ≡ naming_of plan
+    → SessionTold (geometry_of core) TRANSMISSION_FLAGS (left input) (left input') (held output) (held output')
+    (Did names names1 core mid tape tape1 (log link) (log link1) (link_faults link) (link_faults link1) (ticks clock)
+    (ticks clock1)) ended
     → CountsFaults (read_faults input) (read_faults input') (ended ≡ end.ReadFault)
     → CountsFaults (write_faults output) (write_faults output') (ended ≡ end.WriteFault)
-    → FlushDoes (Did mid core' tape1 tape' (log link1) (log link') (link_faults link1) (link_faults link')
+    → FlushDoes (Did names1 names' mid core' tape1 tape' (log link1) (log link') (link_faults link1) (link_faults link')
     (ticks clock1) (ticks clock')) flushed
     → status ≡ run_status ended flushed
     → ComplainsOf (run_line ended flushed) (held errors) (held errors') (write_faults errors) (write_faults errors')
-    → ServesSession log link_faults ticks left read_faults held write_faults geometry link link' clock clock' input
-    input'
+    → ServesSession log link_faults ticks left read_faults held write_faults plan link link' clock clock' input input'
     output output' errors errors' tape tape' status
-session_serves log link_faults ticks left read_faults held write_faults geometry core mid core' link link1 link' clock
-    clock1 clock'
-    input input' output output' errors errors' tape tape1 tape' ended flushed status legal flushes survives fresh told
-    read_cause write_cause flush status_is complains =
+session_serves log link_faults ticks left read_faults held write_faults plan names names1 names' core mid core' link
+    link1 link' clock clock1 clock' input input' output output' errors errors' tape tape1 tape' ended flushed status
+    legal flushes survives fresh named told read_cause write_cause flush status_is complains =
     let did = did_join (λ past fits. fits) told.done flush.done in
+    let course = rw fresh.geometry_is at told.course in
     record {
       entries = told.entries;
       calls = told.calls;
       flush_entries = flush.entries;
       flush_calls = flush.calls;
-      history = history_of geometry core core' tape tape' (log link) (log link') (link_faults link) (link_faults link')
-          (ticks clock) (ticks clock')
-          (flush.entries ++ told.entries) (flush.calls ++ told.calls) legal flushes survives fresh did;
+      history = history_of plan names names' core core' tape tape' (log link) (log link') (link_faults link)
+          (link_faults link') (ticks clock) (ticks clock') (flush.entries ++ told.entries) (flush.calls ++ told.calls)
+          legal flushes survives fresh named did;
       ended = ended;
-      course = told.course;
+      course = course;
       read_cause = read_cause.rises;
       write_cause = write_cause.rises;
       link_counts = did.asked.counted;
@@ -160,7 +161,7 @@ session_serves log link_faults ticks left read_faults held write_faults geometry
       complains = complains;
       saved = λ zero. saved_by flushed flush.entries told.entries flush.calls flush.ends
           (flushed_at_zero ended flushed (sym status_is ∙ zero));
-      no_failed_reply = λ quiet. none_failed told.course (link_faults link)
+      no_failed_reply = λ quiet. none_failed course (link_faults link)
           (link_faults link') flush.calls quiet did.asked.counted;
       ends_well = λ quiet read written refused spent.
           subst (λ (n : ℕ). (n ≡ 0) ⊎ (n ≡ 12)) (sym status_is)

@@ -6,6 +6,8 @@ use Rattle.sb_base.specs.declared.entry.Entry.{Entry}
 use Rattle.sb_world.specs.Told.{Gains, Rose}
 use Rattle.sb_world.specs.Streams.{Holds}
 use Rattle.sb_world.specs.Benches.{BenchParts, with_links, shut_bench}
+use Rattle.sb_world.specs.declared.world.Ask.{Ask}
+use Rattle.sb_world.specs.declared.world.Ask.TheVariants as ask
 use Rattle.sb_world.specs.declared.clock.Tick.{Tick}
 use Rattle.sb_world.specs.declared.link.Call.{Call}
 use Rattle.sb_history.specs.Contents.{Start, FillBlocks}
@@ -18,7 +20,7 @@ use Rattle.sb_history.specs.ClockTrace.{ClockTrace}
 use Rattle.sb_history.specs.AccessRules.{FollowsAccessRules}
 use Rattle.sb_history.specs.CachePolicy.{FollowsCachePolicy}
 use Rattle.sb_core.specs.Represents.{nothing_found}
-use Rattle.sb_crew.specs.Names.{block_name}
+use Rattle.sb_crew.specs.Names.{name_of}
 use Rattle.sb_crew.specs.declared.calls.CallFault.{CallFault}
 use Rattle.sb_crew.specs.declared.calls.CallFault.TheVariants.{StoreFault, Memory}
 use Rattle.sb_crew.specs.Outcomes.{Outcome, outcomes_of, flush_of, FlushEnds, AsksOnly}
@@ -33,6 +35,7 @@ use Rattle.std.specs.List.{AllByRecursion}
 use Rattle.sb_nbd.specs.declared.reply.TheConstants.{EIO}
 use Rattle.sb_session.specs.Sessions.{Served}
 use Rattle.s3backer.specs.declared.settings.TheConstants.{SETTINGS}
+use Rattle.s3backer.specs.Plans.{PlanParts, naming_of}
 use Rattle.s3backer.specs.Words.{IsTaken, IsRefused}
 use Rattle.s3backer.specs.declared.words.Usage.{Usage}
 
@@ -92,23 +95,23 @@ ComplainsOf (Some line) held held' faults faults' = Complains held held' faults 
 -- store
 -- that shows the latest versions, that each read is that of a register, that each flush that is done has saved what was
 -- written before it, and what a crash leaves at any moment
-pub record IsHistory (geometry : Geometry) (told told' : Option (List Entry)) (log log' : Option (List Call))
+pub record IsHistory (plan : PlanParts) (told told' : Option (List Entry)) (log log' : Option (List Call))
     (ticks ticks' : Option (List Tick)) (entries : List Entry) (calls : List Call) : Type 0 where
   pub of_pass : IsOfPass 1 entries
   pub tape : Gains told told' entries
   pub asked : Gains log log' calls
-  pub requests : RequestLog block_name (Some (sizes_of geometry)) entries calls
+  pub requests : RequestLog (name_of (naming_of plan)) (Some (sizes_of plan.geometry)) entries calls
   pub readings : List Tick
   pub clock : Gains ticks ticks' readings
-  pub trace : ClockTrace geometry SETTINGS only_caller [] entries None readings
-  pub rules : FollowsAccessRules geometry SETTINGS nothing_found entries
-  pub policy : FollowsCachePolicy geometry SETTINGS nothing_found entries
-  pub legal : (start : Start) → FillBlocks geometry.block_size start
-      → IsStaleWithin geometry.block_size start at_once entries → IsLegal start entries
-  pub durable : (start : Start) → FillBlocks geometry.block_size start
-      → IsStaleWithin geometry.block_size start at_once entries → FlushesAreDurable start entries
-  pub survives : (start : Start) → FillBlocks geometry.block_size start
-      → IsStaleWithin geometry.block_size start at_once entries → IsCrashDurable start entries
+  pub trace : ClockTrace plan.geometry SETTINGS only_caller [] entries None readings
+  pub rules : FollowsAccessRules plan.geometry SETTINGS nothing_found entries
+  pub policy : FollowsCachePolicy plan.geometry SETTINGS nothing_found entries
+  pub legal : (start : Start) → FillBlocks plan.geometry.block_size start
+      → IsStaleWithin plan.geometry.block_size start at_once entries → IsLegal start entries
+  pub durable : (start : Start) → FillBlocks plan.geometry.block_size start
+      → IsStaleWithin plan.geometry.block_size start at_once entries → FlushesAreDurable start entries
+  pub survives : (start : Start) → FillBlocks plan.geometry.block_size start
+      → IsStaleWithin plan.geometry.block_size start at_once entries → IsCrashDurable start entries
 
 -- no reply of a session has the error of a store that failed
 abbrev pub NoneFailed : {geometry : Geometry} {transmission : ℕ} {before now held_before held_now : Option (List ℕ)}
@@ -124,19 +127,19 @@ module _ {L C R S : Type 0} (log : L → Option (List Call)) (link_faults : L �
   -- a session was served and the disk flushed then: the history of both, the session's course over the bytes, how it
   -- and
   -- the flush ended, and what was told of that
-  pub record ServesSession (geometry : Geometry) (link link' : L) (clock clock' : C) (input input' : R)
+  pub record ServesSession (plan : PlanParts) (link link' : L) (clock clock' : C) (input input' : R)
       (output output' errors errors' : S) (told told' : Option (List Entry)) (status : ℕ) : Type 0 where
     pub entries : List Entry
     pub calls : List Call
     pub flush_entries : List Entry
     pub flush_calls : List Call
-    pub history : IsHistory geometry told told' (log link) (log link') (ticks clock) (ticks clock')
+    pub history : IsHistory plan told told' (log link) (log link') (ticks clock) (ticks clock')
         (flush_entries ++ entries) (flush_calls ++ calls)
     pub ended : SessionEnd
     pub course :
-        (Unopened geometry TRANSMISSION_FLAGS (left input) (left input') (held output) (held output') ended
+        (Unopened plan.geometry TRANSMISSION_FLAGS (left input) (left input') (held output) (held output') ended
         × (entries ≡ []) × (calls ≡ []))
-        ⊎ Served geometry TRANSMISSION_FLAGS (left input) (left input') (held output) (held output') ended
+        ⊎ Served plan.geometry TRANSMISSION_FLAGS (left input) (left input') (held output) (held output') ended
         entries calls
     pub read_cause : ended ≡ end.ReadFault → Rose (read_faults input) (read_faults input')
     pub write_cause : ended ≡ end.WriteFault → Rose (write_faults output) (write_faults output')
@@ -169,30 +172,31 @@ module _ {L C R S : Type 0} (log : L → Option (List Call)) (link_faults : L �
         (codes "s3backer: out of memory\n")
 
   -- what a run did with what its bench had
-  abbrev pub Serves : Geometry → L → L → C → C → R → R → S → S → S → S → Option (List Entry) → Option (List Entry)
+  abbrev pub Serves : PlanParts → L → L → C → C → R → R → S → S → S → S → Option (List Entry) → Option (List Entry)
       → ℕ → Type 0
-  Serves geometry link link' clock clock' input input' output output' errors errors' told told' status =
-      ServesSession geometry link link' clock clock' input input' output output' errors errors' told told' status
+  Serves plan link link' clock clock' input input' output output' errors errors' told told' status =
+      ServesSession plan link link' clock clock' input input' output output' errors errors' told told' status
       ⊎ LacksMemory link link' clock clock' input input' output output' errors errors' told told' status
 
-  -- a run on a bench of one link
-  pub record ServesBench (geometry : Geometry) (before after : BenchParts L C R S)
-      (told told' : Option (List Entry)) (status : ℕ) : Type 0 where
+  -- a run on a bench: its last link was worked with, and the others stay
+  pub record ServesBench (plan : PlanParts) (before after : BenchParts L C R S) (told told' : Option (List Entry))
+      (status : ℕ) : Type 0 where
+    pub others : List L
     pub link : L
     pub link' : L
-    pub one : before.links ≡ link ∷ []
-    pub one' : after.links ≡ link' ∷ []
-    pub serves : Serves geometry link link' before.clock after.clock before.input after.input
-        before.output after.output before.errors after.errors told told' status
+    pub links : before.links ≡ others ++ link ∷ []
+    pub links' : after.links ≡ others ++ link' ∷ []
+    pub serves : Serves plan link link' before.clock after.clock before.input after.input before.output after.output
+        before.errors after.errors told told' status
 
   -- a run on the world's next bench, which was shut then
-  pub record RunsBench (geometry : Geometry) (next : Option (BenchParts L C R S)) (tells : Bool)
+  pub record RunsBench (plan : PlanParts) (next : Option (BenchParts L C R S)) (tells : Bool)
       (last : Option (BenchParts L C R S)) (told told' : Option (List Entry)) (status : ℕ) : Type 0 where
     pub before : BenchParts L C R S
     pub after : BenchParts L C R S
     pub next_is : IfSome next (λ parts. before ≡ with_links 1 parts)
     pub last_is : last ≡ shut_bench tells after
-    pub bench : ServesBench geometry before after told told' status
+    pub bench : ServesBench plan before after told told' status
 
 -- a line that begins so was said
 pub record SaysUsage (said said' : Option (List (List ℕ))) : Type 0 where
@@ -203,28 +207,35 @@ pub record SaysUsage (said said' : Option (List (List ℕ))) : Type 0 where
 abbrev pub IsUsageLine : List ℕ → Type 0
 IsUsageLine line = (wording : List ℕ) × (line ≡ codes "s3backer: usage: " ++ wording)
 
+-- the world was asked for a bench over the plan's store, with one link
+abbrev pub AsksBench : PlanParts → Option (List Ask) → Option (List Ask) → Type 0
+AsksBench plan asks asks' = Gains asks asks' (ask.Bench (Some plan.store) 1 ∷ [])
+
 -- the words were refused: nothing but a line about them
-pub record RefusesWords (words : List (List ℕ)) (told told' : Option (List Entry))
+pub record RefusesWords (words : List (List ℕ)) (asks asks' : Option (List Ask)) (told told' : Option (List Entry))
     (said said' : Option (List (List ℕ))) (status : ℕ) : Type 0 where
   pub usage : Usage
   pub refused : IsRefused words usage
+  pub asks_stay : asks' ≡ asks
   pub status_is : status ≡ 2
   pub tape_stays : told' ≡ told
   pub says : SaysUsage said said'
 
 -- the words were taken, and the world had no bench: its count of faults rose
-pub record HasNoBench (words : List (List ℕ)) (faults faults' : ℕ) (told told' : Option (List Entry))
-    (said said' : Option (List (List ℕ))) (status : ℕ) : Type 0 where
-  pub geometry : Geometry
-  pub taken : IsTaken words geometry
+pub record HasNoBench (words : List (List ℕ)) (faults faults' : ℕ) (asks asks' : Option (List Ask))
+    (told told' : Option (List Entry)) (said said' : Option (List (List ℕ))) (status : ℕ) : Type 0 where
+  pub plan : PlanParts
+  pub taken : IsTaken words plan
+  pub asked : AsksBench plan asks asks'
   pub cause : Rose faults faults'
   pub status_is : status ≡ 3
   pub tape_stays : told' ≡ told
   pub says : Gains said said' (codes "s3backer: cannot reach the store\n" ∷ [])
 
--- want of memory came before there was a bench
-pub record LacksMemoryEarly (told told' : Option (List Entry)) (said said' : Option (List (List ℕ))) (status : ℕ)
-    : Type 0 where
+-- want of memory came before there was a bench: before the world was asked for one, or as it made it
+pub record LacksMemoryEarly (words : List (List ℕ)) (asks asks' : Option (List Ask)) (told told' : Option (List Entry))
+    (said said' : Option (List (List ℕ))) (status : ℕ) : Type 0 where
+  pub asked : (asks' ≡ asks) ⊎ ((plan : PlanParts) × IsTaken words plan × AsksBench plan asks asks')
   pub status_is : status ≡ 12
   pub tape_stays : told' ≡ told
   pub says : Gains said said' (codes "s3backer: out of memory\n" ∷ [])
@@ -235,19 +246,21 @@ module _ {L C R S : Type 0} (log : L → Option (List Call)) (link_faults : L �
     (read_faults : R → ℕ) (held : S → Option (List ℕ)) (write_faults : S → ℕ) where
   -- the words were taken, and the world's next bench served
   pub record ServesWords (words : List (List ℕ)) (next : Option (BenchParts L C R S)) (tells : Bool)
-      (last' : Option (BenchParts L C R S)) (told told' : Option (List Entry)) (said said' : Option (List (List ℕ)))
-      (status : ℕ) : Type 0 where
-    pub geometry : Geometry
-    pub taken : IsTaken words geometry
-    pub runs : RunsBench log link_faults ticks left read_faults held write_faults geometry next tells last' told told'
+      (last' : Option (BenchParts L C R S)) (asks asks' : Option (List Ask)) (told told' : Option (List Entry))
+      (said said' : Option (List (List ℕ))) (status : ℕ) : Type 0 where
+    pub plan : PlanParts
+    pub taken : IsTaken words plan
+    pub asked : AsksBench plan asks asks'
+    pub runs : RunsBench log link_faults ticks left read_faults held write_faults plan next tells last' told told'
         status
     pub quiet : said' ≡ said
 
   -- how a run ends
   abbrev pub RunEnds : List (List ℕ) → ℕ → ℕ → Option (BenchParts L C R S) → Bool → Option (BenchParts L C R S)
-      → Option (List Entry) → Option (List Entry) → Option (List (List ℕ)) → Option (List (List ℕ)) → ℕ → Type 0
-  RunEnds words faults faults' next tells last' told told' said said' status =
-      RefusesWords words told told' said said' status
-      ⊎ (HasNoBench words faults faults' told told' said said' status
-      ⊎ (LacksMemoryEarly told told' said said' status
-      ⊎ ServesWords words next tells last' told told' said said' status))
+      → Option (List Ask) → Option (List Ask) → Option (List Entry) → Option (List Entry)
+      → Option (List (List ℕ)) → Option (List (List ℕ)) → ℕ → Type 0
+  RunEnds words faults faults' next tells last' asks asks' told told' said said' status =
+      RefusesWords words asks asks' told told' said said' status
+      ⊎ (HasNoBench words faults faults' asks asks' told told' said said' status
+      ⊎ (LacksMemoryEarly words asks asks' told told' said said' status
+      ⊎ ServesWords words next tells last' asks asks' told told' said said' status))

@@ -1,3 +1,5 @@
+pub mod Plans
 pub mod Words
+pub mod Read
 pub mod Headline
 pub mod Fresh

@@ -1,54 +1,123 @@
 -- Which words are taken, and what they mean.
-use Rattle.std.specs.Prelude.{ℕ, ◌≡◌, List, [], ◌∷◌, ◌++◌, codes, Option, Some, None, Result, Ok, Err}
+use Rattle.std.specs.Prelude.{ℕ, ◌≡◌, Bool, true, false, ◌||◌, nat_eq, nat_lt, if◌then◌else◌, List, []}
+use Rattle.std.specs.Prelude.{◌∷◌, ◌++◌, length, codes, Option, Some, None, Result, Ok, Err}
+use Rattle.std.specs.List.{list_any}
 use Rattle.sb_base.specs.declared.geometry.Geometry.{Geometry}
+use Rattle.sb_base.specs.declared.geometry.GeometryFault.{GeometryFault}
 use Rattle.sb_base.specs.declared.size.SizeFault.{SizeFault}
+use Rattle.sb_base.specs.declared.access.StorePlan.TheVariants as store
 use Rattle.sb_base.specs.Shapes.{geometry_of}
 use Rattle.sb_base.specs.Sizes.{size_of}
+use Rattle.s3backer.specs.Plans.{PlanParts}
 use Rattle.s3backer.specs.declared.words.Usage.{Usage}
 use Rattle.s3backer.specs.declared.words.Usage.TheVariants as usage
 use Rattle.s3backer.specs.declared.words.PlanFault.{PlanFault}
-use Rattle.s3backer.specs.declared.words.PlanFault.TheVariants as plan
+use Rattle.s3backer.specs.declared.words.PlanFault.TheVariants as fault
 use Rattle.s3backer.specs.declared.words.TheConstants.{BLOCK_SIZE}
+use Rattle.sb_names.specs.declared.names.TheConstants.{MAX_PREFIX}
 
--- the words of the one form that is built: --stdio --size=SIZE memory
-abbrev pub IsForm : List (List ℕ) → List ℕ → Type 0
-IsForm words size = words ≡ codes "--stdio" ∷ (codes "--size=" ++ size) ∷ codes "memory" ∷ []
-
--- the words are of that form, and its size is one of a disk
-pub record IsTaken (words : List (List ℕ)) (geometry : Geometry) : Type 0 where
+-- the values among words that are taken
+pub record Given : Type 0 where
+  pub prefix : Option (List ℕ)
+  pub hashed : Bool
   pub size : List ℕ
-  pub bytes : ℕ
-  pub form : IsForm words size
-  pub reads : size_of size ≡ Ok bytes
-  pub fits : geometry_of bytes BLOCK_SIZE ≡ Ok geometry
+  pub directory : List ℕ
+
+-- an option's word and its value, where it is given
+abbrev pub option_words : List ℕ → Option (List ℕ) → List (List ℕ)
+option_words name None = []
+option_words name (Some value) = (name ++ value) ∷ []
+
+-- a flag's word, where it is given
+abbrev pub flag_words : List ℕ → Bool → List (List ℕ)
+flag_words name true = name ∷ []
+flag_words name false = []
+
+-- the words that give these values: --stdio --test [--prefix=TEXT] [--blockHashPrefix] --size=SIZE DIR
+abbrev pub words_of : Given → List (List ℕ)
+words_of given =
+    codes "--stdio" ∷ codes "--test" ∷ option_words (codes "--prefix=") given.prefix
+    ++ flag_words (codes "--blockHashPrefix") given.hashed ++ (codes "--size=" ++ given.size) ∷ given.directory ∷ []
+
+-- a word is an option: it begins with a dash and is longer
+abbrev pub is_option : List ℕ → Bool
+is_option (first ∷ second ∷ bytes) = nat_eq first 45
+is_option word = false
+
+-- the words give these values, and the last one is no option
+pub record AreWordsOf (words : List (List ℕ)) (given : Given) : Type 0 where
+  pub words_are : words ≡ words_of given
+  pub plain : is_option given.directory ≡ false
+
+-- a byte that no name of an object has: none of the printable ASCII, or one that XML gives a meaning
+abbrev pub is_odd : ℕ → Bool
+is_odd byte =
+    nat_lt byte 32 || nat_lt 126 byte || nat_eq byte 60 || nat_eq byte 62 || nat_eq byte 38 || nat_eq byte 34
+    || nat_eq byte 39
+
+-- a prefix is too long or has such a byte
+abbrev pub is_bad_prefix : List ℕ → Bool
+is_bad_prefix prefix = nat_lt MAX_PREFIX (length prefix) || list_any is_odd prefix
+
+-- the prefix that is given, or none
+abbrev pub prefix_or_empty : Option (List ℕ) → List ℕ
+prefix_or_empty None = []
+prefix_or_empty (Some prefix) = prefix
+
+-- the prefix and the path of a directory, or what is refused of them
+abbrev pub checked_names : List ℕ → List ℕ → Result Unit Usage
+checked_names prefix directory =
+    if is_bad_prefix prefix then Err (usage.BadPrefix prefix)
+    else if list_any (nat_eq 47) prefix then Err usage.PrefixSlash
+    else if nat_eq (length directory) 0 then Err (usage.BadBucket directory)
+    else Ok tt
+
+-- the geometry, unless no disk has it
+abbrev pub shaped : Result Geometry GeometryFault → Result Geometry Usage
+shaped (Ok geometry) = Ok geometry
+shaped (Err fault) = Err (usage.Geometry fault)
+
+-- the geometry of a disk whose size is this word, if it reads as so many bytes
+abbrev pub sized : List ℕ → Result ℕ SizeFault → Result Geometry Usage
+sized word (Ok bytes) = shaped (geometry_of bytes BLOCK_SIZE)
+sized word (Err fault) = Err (usage.BadSize (codes "--size") word)
+
+-- the plan of a disk over a directory
+abbrev pub directory_plan : Geometry → List ℕ → Bool → List ℕ → PlanParts
+directory_plan geometry prefix hashed directory =
+    record { store = store.Dir directory; prefix = prefix; hashed = hashed; geometry = geometry }
+
+-- the plan of a geometry and of names, where neither is refused
+abbrev pub planned : Result Geometry Usage → Result Unit Usage → Given → Result PlanParts Usage
+planned (Err fault) names given = Err fault
+planned (Ok geometry) (Err fault) given = Err fault
+planned (Ok geometry) (Ok checked) given =
+    Ok (directory_plan geometry (prefix_or_empty given.prefix) given.hashed given.directory)
+
+-- the plan by the values of the words, or the first of their faults
+abbrev pub plan_of : Given → Result PlanParts Usage
+plan_of given =
+    planned (sized given.size (size_of given.size)) (checked_names (prefix_or_empty given.prefix) given.directory) given
+
+-- the words are taken, and have this plan
+pub record IsTaken (words : List (List ℕ)) (plan : PlanParts) : Type 0 where
+  pub given : Given
+  pub form : AreWordsOf words given
+  pub plan_is : plan_of given ≡ Ok plan
+
+-- the words are of the form, and this is the first fault of their values
+pub record HasFault (words : List (List ℕ)) (fault : Usage) : Type 0 where
+  pub given : Given
+  pub form : AreWordsOf words given
+  pub fault_is : plan_of given ≡ Err fault
 
 -- why words are not taken
 abbrev pub IsRefused : List (List ℕ) → Usage → Type 0
-IsRefused words usage.NotBuilt = (size : List ℕ) → IsForm words size → ⊥
-IsRefused words (usage.BadSize name word) = IsForm words word × (name ≡ codes "--size") × ((fault : SizeFault)
-    × (size_of word ≡ Err fault))
-IsRefused words (usage.Geometry fault) = (size : List ℕ) × (bytes : ℕ) × IsForm words size
-    × (size_of size ≡ Ok bytes) × (geometry_of bytes BLOCK_SIZE ≡ Err fault)
-
--- a size that reads and is one of a disk, or why not
-abbrev pub IsSized : List ℕ → Result Geometry PlanFault → Type 0
-IsSized size (Ok geometry) = (bytes : ℕ) × (size_of size ≡ Ok bytes) × (geometry_of bytes BLOCK_SIZE ≡ Ok geometry)
-IsSized size (Err (plan.Usage usage.NotBuilt)) = ⊥
-IsSized size (Err (plan.Usage (usage.BadSize name word))) = (word ≡ size) × (name ≡ codes "--size")
-    × ((fault : SizeFault) × (size_of size ≡ Err fault))
-IsSized size (Err (plan.Usage (usage.Geometry fault))) = (bytes : ℕ) × (size_of size ≡ Ok bytes)
-    × (geometry_of bytes BLOCK_SIZE ≡ Err fault)
-IsSized size (Err plan.Memory) = Unit {0}
-
--- three words are of the form with this size
-abbrev pub SizeWord : List ℕ → List ℕ → List ℕ → Option (List ℕ) → Type 0
-SizeWord form size store None = (rest : List ℕ) → form ≡ codes "--stdio" → size ≡ codes "--size=" ++ rest
-    → store ≡ codes "memory" → ⊥
-SizeWord form size store (Some rest) = (form ≡ codes "--stdio") × (size ≡ codes "--size=" ++ rest)
-    × (store ≡ codes "memory")
+IsRefused words usage.NotBuilt = (given : Given) → AreWordsOf words given → ⊥
+IsRefused words fault = HasFault words fault
 
 -- a plan of words
-abbrev pub IsPlan : List (List ℕ) → Result Geometry PlanFault → Type 0
-IsPlan words (Ok geometry) = IsTaken words geometry
-IsPlan words (Err (plan.Usage fault)) = IsRefused words fault
-IsPlan words (Err plan.Memory) = Unit {0}
+abbrev pub IsPlan : List (List ℕ) → Result PlanParts PlanFault → Type 0
+IsPlan words (Ok plan) = IsTaken words plan
+IsPlan words (Err (fault.Usage usage)) = IsRefused words usage
+IsPlan words (Err fault.Memory) = Unit {0}

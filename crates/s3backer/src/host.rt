@@ -1,13 +1,17 @@
-//! The world outside: standard input, output and error, and the system's clock.
+//! The world outside: directories as stores, standard input, output and error, and the system's clock.
 //!
 //! These adapters are trusted: each counts its faults, and tells nothing of bytes or times.
 
-ghost use Rattle.std.specs.Prelude.{◌≡◌, ◌≤◌, ◌^◌, None, false, IfOk, vec_len};
+ghost use Rattle.std.specs.Prelude.{◌≡◌, ◌≤◌, ◌^◌, None, false, IfOk, IsErrOf, vec_len};
+ghost use Rattle.std.specs.Option.{option_copied};
+ghost use Rattle.sb_world.specs.Benches.{link_count};
+ghost use Rattle.sb_world.specs.Told.{CountsFaults};
 
-use sb_fakes::PlainStore;
+use crate::folder::HostFolder;
+use sb_base::{StorePlan, Text};
+use sb_dirstore::DirLink;
 use sb_world::{Bench, Clock, MakeFault, ReadFault, Sink, Source, World, WriteFault};
-use std::alloc::{AllocError, Global};
-use std::io::{Input, Print, Read};
+use std::io::{self, Input, Print, Read};
 use std::rt::{HostRuntime, Stderr, Stdout};
 use std::time::{Duration, Instant, SystemTime};
 
@@ -45,7 +49,10 @@ pub struct HostClock {
     ghost limit: { latest ≤ 2 ^ 62 },
 }
 
-/// The world outside, with a store in memory that lives for one run.
+/// A directory of the file system as a store.
+type HostLink = DirLink<HostFolder>;
+
+/// The world outside, with directories as stores.
 #[derive(Drop)]
 pub struct HostWorld {
     rt: HostRuntime,
@@ -140,6 +147,21 @@ impl HostWorld {
         HostWorld { rt, faults: 0 }
     }
 
+    /// So many links to a store.
+    fn links(&mut self, store: &StorePlan, count: u32) -> Result<Vec<HostLink>, MakeFault>
+        ensures count { IfOk result (λ links. vec_len links ≡ count) }
+        ensures cause { CountsFaults self.old.faults self.new.faults (IsErrOf result MakeFault.Store) }
+    {
+        match open_links(self.rt, store, count) {
+            Ok(links) => Ok(links),
+            Err(error) if error.kind() == io::ErrorKind::OutOfMemory => Err(MakeFault::Memory),
+            Err(_) => {
+                self.faults = self.faults.saturating_add(1);
+                Err(MakeFault::Store)
+            }
+        }
+    }
+
     /// A sink.
     fn sink(to: Stream) -> HostSink {
         HostSink { to, faults: 0 }
@@ -147,7 +169,7 @@ impl HostWorld {
 }
 
 impl World for HostWorld {
-    type Link = PlainStore;
+    type Link = HostLink;
 
     type Clock = HostClock;
 
@@ -163,15 +185,18 @@ impl World for HostWorld {
 
     ghost last = { λ _. None };
 
+    ghost asks = { λ _. None };
+
     ghost said = { λ _. None };
 
     fn bench(
         &mut self,
+        store: Option<&StorePlan>,
         links: u32,
-    ) -> Result<Bench<PlainStore, HostClock, HostSource, HostSink>, MakeFault> {
-        let links = match stores(self.rt.alloc(), links) {
-            Ok(stores) => stores,
-            Err(_) => return Err(MakeFault::Memory),
+    ) -> Result<Bench<HostLink, HostClock, HostSource, HostSink>, MakeFault> {
+        let links = match store {
+            Some(store) => self.links(store, links)?,
+            None => Vec::new(self.rt.alloc()),
         };
         Ok(Bench {
             links,
@@ -190,7 +215,7 @@ impl World for HostWorld {
         })
     }
 
-    fn shut(&mut self, _bench: Bench<PlainStore, HostClock, HostSource, HostSink>)
+    fn shut(&mut self, _bench: Bench<HostLink, HostClock, HostSource, HostSink>)
         ensures { self.old.faults ≤ self.new.faults }
     {}
 
@@ -202,13 +227,24 @@ impl World for HostWorld {
     }
 }
 
-/// So many stores in memory.
-fn stores(alloc: Global, count: u32) -> Result<Vec<PlainStore>, AllocError>
-    ensures { IfOk result (λ stores. vec_len stores ≡ count) }
+/// So many links to a store. A store over HTTP isn't reached yet.
+fn open_links(rt: HostRuntime, store: &StorePlan, count: u32) -> io::Result<Vec<HostLink>>
+    ensures { IfOk result (λ links. vec_len links ≡ count) }
 {
-    let mut stores = Vec::new(alloc);
+    let StorePlan::Dir { path } = store else {
+        return Err(io::Error::from(io::ErrorKind::Unsupported));
+    };
+    let mut links = Vec::new(rt.alloc());
     for _i in 0..count {
-        stores.push(PlainStore::new(alloc))?;
+        links.push(DirLink::new(rt.alloc(), open_folder(rt, path)?))?;
     }
-    Ok(stores)
+    Ok(links)
+}
+
+/// The directory of a path.
+fn open_folder(rt: HostRuntime, path: &Text) -> io::Result<HostFolder> {
+    match std::str::from_utf8(path.bytes()) {
+        Ok(path) => HostFolder::open(rt, path),
+        Err(_) => Err(io::Error::from(io::ErrorKind::InvalidFilename)),
+    }
 }

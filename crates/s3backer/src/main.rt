@@ -1,7 +1,11 @@
 //! One disk of fixed size whose blocks are objects of a store, served over NBD.
 #![tactic(auto)]
 
+mod folder;
+#[cfg(test)]
+mod folder_tests;
 mod host;
+mod plan;
 mod rehearsal;
 mod settings;
 #[cfg(test)]

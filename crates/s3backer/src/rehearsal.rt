@@ -1,7 +1,15 @@
 //! The program in a world in memory, which tells all that is asked of it.
 
 ghost use Rattle.std.specs.Prelude.{◌≡◌, ◌∷◌, [], Some, true, IfOk, map, string_bytes};
-ghost use Rattle.sb_fakes.specs.Told.{ticks_of, bytes_of, faults_of, entries_of, said_of, world_faults};
+ghost use Rattle.sb_fakes.specs.Told.{
+  ticks_of,
+  bytes_of,
+  faults_of,
+  entries_of,
+  asks_of,
+  said_of,
+  world_faults,
+};
 ghost use Rattle.s3backer.specs.Headline.{RunEnds};
 
 use crate::top::run;
@@ -32,7 +40,7 @@ pub fn rehearse<L: Link + Drop>(
     ensures { IfOk result (λ done. RunEnds L.log L.faults ticks_of bytes_of faults_of bytes_of faults_of
         (map string_bytes words.now) 0 (world_faults done.world) (Some
         (record { links = link ∷ []; clock = clock; input = input; output = output; errors = errors })) true
-        done.world.last (Some []) (entries_of done.tape) (Some []) (said_of done.world) done.status) }
+        done.world.last (Some []) (asks_of done.world) (Some []) (entries_of done.tape) (Some []) (said_of done.world) done.status) }
 {
     let mut links = Vec::new(alloc);
     links.push(link)?;

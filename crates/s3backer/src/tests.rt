@@ -1,14 +1,15 @@
 //! Sessions of the program in a world in memory. The bytes are those of the NBD protocol document.
 
-ghost use Rattle.std.specs.Prelude.{◌≢◌};
+ghost use Rattle.std.specs.Prelude.{◌≡◌, ◌≢◌, length};
+ghost use Rattle.sb_base.specs.Shapes.{IsSound};
 
 use crate::rehearsal::{Rehearsal, rehearse};
 use crate::settings::SETTINGS;
 use sb_base::{Geometry, Part, Text};
 use sb_core::Core;
-use sb_crew::{Alone, Calls, Desk};
-use sb_fakes::{Failing, HandClock, MemoryConn, PlainStore};
-use sb_world::{Link, NoTape};
+use sb_crew::{Alone, Calls, Desk, Names};
+use sb_fakes::{HandClock, MemoryConn, PlainStore, TimedStore};
+use sb_world::{Link, Meta, NoTape};
 use std::alloc::{AllocError, Global};
 use std::test::Fail;
 
@@ -20,12 +21,12 @@ pub(crate) const HANDSHAKE: &[u8] =
 pub(crate) const DISC: &[u8] =
     b"\x25\x60\x95\x13\x00\x00\x00\x02\x00\x00\x00\x00\x00\x00\x00\x00\x00\x00\x00\x00\x00\x00\x00\x00\x00\x00\x00\x00";
 
-const READ_512: &[u8] =
+pub(crate) const READ_512: &[u8] =
     b"\x25\x60\x95\x13\x00\x00\x00\x00\x00\x00\x00\x00\x00\x00\x00\x01\x00\x00\x00\x00\x00\x00\x00\x00\x00\x00\x02\x00";
 
-const EIO_1: &[u8] = b"\x67\x44\x66\x98\x00\x00\x00\x05\x00\x00\x00\x00\x00\x00\x00\x01";
+pub(crate) const EIO_1: &[u8] = b"\x67\x44\x66\x98\x00\x00\x00\x05\x00\x00\x00\x00\x00\x00\x00\x01";
 
-const OK_1: &[u8] = b"\x67\x44\x66\x98\x00\x00\x00\x00\x00\x00\x00\x00\x00\x00\x00\x01";
+pub(crate) const OK_1: &[u8] = b"\x67\x44\x66\x98\x00\x00\x00\x00\x00\x00\x00\x00\x00\x00\x00\x01";
 
 /// The pieces, one after the other.
 pub(crate) fn joined(alloc: Global, pieces: &[&[u8]]) -> Result<Text, AllocError> {
@@ -50,6 +51,33 @@ pub(crate) fn session<L: Link + Drop>(
     session_over(alloc, link, input, output)
 }
 
+/// These words.
+pub(crate) fn words_of(alloc: Global, words: &[&str]) -> Result<Vec<String>, AllocError> {
+    let mut owned = Vec::new(alloc);
+    for word in words {
+        owned.push(String::from_str(alloc, word)?)?;
+    }
+    Ok(owned)
+}
+
+/// A session of a disk of these words over a link, whose client sends these bytes.
+pub(crate) fn session_of<L: Link + Drop>(
+    alloc: Global,
+    words: &[String],
+    link: L,
+    sent: Text,
+) -> Result<Rehearsal<L>, AllocError> {
+    rehearse(
+        alloc,
+        words,
+        link,
+        HandClock::new(alloc, 1000, 0, false),
+        MemoryConn::source(sent, 4096, Vec::new(alloc)),
+        MemoryConn::sink(alloc, Vec::new(alloc)),
+        MemoryConn::sink(alloc, Vec::new(alloc)),
+    )
+}
+
 /// A session of a disk of 64k over a link and these ends of a connection.
 pub(crate) fn session_over<L: Link + Drop>(
     alloc: Global,
@@ -57,10 +85,7 @@ pub(crate) fn session_over<L: Link + Drop>(
     input: MemoryConn,
     output: MemoryConn,
 ) -> Result<Rehearsal<L>, AllocError> {
-    let mut words = Vec::new(alloc);
-    for word in ["--stdio", "--size=64k", "memory"] {
-        words.push(String::from_str(alloc, word)?)?;
-    }
+    let words = words_of(alloc, &["--stdio", "--test", "--size=64k", "disk"])?;
     rehearse(
         alloc,
         words.as_slice(),
@@ -70,6 +95,26 @@ pub(crate) fn session_over<L: Link + Drop>(
         output,
         MemoryConn::sink(alloc, Vec::new(alloc)),
     )
+}
+
+/// An empty store. The calls in `fails`, counted from 1, fail.
+pub(crate) fn failing_store(alloc: Global, fails: Vec<u64>) -> TimedStore {
+    TimedStore::new(alloc, Vec::new(alloc), Vec::new(alloc), fails)
+}
+
+/// The names of the objects of a disk of this geometry, without a prefix.
+pub(crate) fn plain_names(alloc: Global, geometry: &Geometry) -> Names
+    requires { IsSound geometry.now }
+    ensures { length result.prefix ≡ 0 }
+{
+    Names {
+        prefix: String::new(alloc),
+        hashed: false,
+        meta: Meta {
+            size: geometry.size(),
+            block_size: geometry.block_size,
+        },
+    }
 }
 
 /// What a run wrote.
@@ -113,7 +158,7 @@ fn an_input_in_single_bytes_gets_the_same_replies(rt: HostRuntime) -> Result<(),
 #[test]
 fn a_failed_get_is_eio_and_the_session_goes_on(rt: HostRuntime) -> Result<(), Fail> {
     let fails = Vec::from_array(rt.alloc(), [1])?;
-    let link = Failing::new(rt.alloc(), PlainStore::new(rt.alloc()), fails);
+    let link = failing_store(rt.alloc(), fails);
     let done = session(rt.alloc(), link, &[OPENING, READ_512, READ_512, DISC], 4096)?;
     let wanted = joined(rt.alloc(), &[HANDSHAKE, EIO_1, OK_1, &[0; 512]])?;
     assert_eq!(rt; done.status, 0);
@@ -131,24 +176,73 @@ fn a_cut_request_is_refused(rt: HostRuntime) -> Result<(), Fail> {
     Ok(())
 }
 
+/// Whether words are refused with this line.
+fn is_refused(alloc: Global, words: &[&str], line: &[u8]) -> Result<bool, AllocError> {
+    let words = words_of(alloc, words)?;
+    let sent = joined(alloc, &[OPENING, DISC])?;
+    let done = session_of(alloc, words.as_slice(), PlainStore::new(alloc), sent)?;
+    let told = done.world.said.len() == 1 && done.world.said[0].bytes() == line;
+    Ok(done.status == 2 && done.world.last.is_none() && told)
+}
+
+/// The line of words that are of no form.
+const FORM: &[u8] =
+    b"s3backer: usage: s3backer --stdio --test [--prefix=TEXT] [--blockHashPrefix] --size=SIZE DIR\n";
+
 #[test]
-fn words_that_are_not_taken_are_said(rt: HostRuntime) -> Result<(), Fail> {
+fn words_of_no_form_are_refused(rt: HostRuntime) -> Result<(), Fail> {
     let alloc = rt.alloc();
-    let done = rehearse(
-        alloc,
+    let forms: [&[&str]; 8] = [
         &[],
-        PlainStore::new(alloc),
-        HandClock::new(alloc, 0, 0, false),
-        MemoryConn::source(joined(alloc, &[])?, 1, Vec::new(alloc)),
-        MemoryConn::sink(alloc, Vec::new(alloc)),
-        MemoryConn::sink(alloc, Vec::new(alloc)),
-    )?;
-    assert_eq!(rt; done.status, 2);
-    assert_eq!(rt; done.world.said.len(), 1);
-    assert_eq!(rt;
-        done.world.said[0].bytes(),
-        b"s3backer: usage: s3backer --stdio --size=SIZE memory\n".as_slice()
-    );
+        &["--stdio", "--size=64k", "memory"],
+        &["--test", "--stdio", "--size=64k", "disk"],
+        &["--stdio", "--test", "--size=64k"],
+        &["--stdio", "--test", "--size", "64k", "disk"],
+        &["--stdio", "--test", "--size=64k", "--readOnly"],
+        &["--stdio", "--test", "--size=64k", "disk", "more"],
+        &[
+            "--stdio",
+            "--test",
+            "--blockHashPrefix",
+            "--prefix=p",
+            "--size=64k",
+            "disk",
+        ],
+    ];
+    for words in forms {
+        assert!(rt; is_refused(alloc, words, FORM)?);
+    }
+    Ok(())
+}
+
+#[test]
+fn the_first_fault_of_values_is_told(rt: HostRuntime) -> Result<(), Fail> {
+    let alloc = rt.alloc();
+    let rows: [(&[&str], &[u8]); 5] = [
+        (
+            &["--stdio", "--test", "--prefix=<", "--size=q", ""],
+            b"s3backer: usage: --size: not a size: q\n",
+        ),
+        (
+            &["--stdio", "--test", "--prefix=<", "--size=0", ""],
+            b"s3backer: usage: the size is 0\n",
+        ),
+        (
+            &["--stdio", "--test", "--prefix=a/<", "--size=64k", ""],
+            b"s3backer: usage: --prefix: not a prefix: a/<\n",
+        ),
+        (
+            &["--stdio", "--test", "--prefix=a/", "--size=64k", ""],
+            b"s3backer: usage: --prefix: a slash, with --test\n",
+        ),
+        (
+            &["--stdio", "--test", "--size=64k", ""],
+            b"s3backer: usage: the name of the directory is empty\n",
+        ),
+    ];
+    for (words, line) in rows {
+        assert!(rt; is_refused(alloc, words, line)?);
+    }
     Ok(())
 }
 
@@ -165,7 +259,8 @@ fn a_block_of_16_mib_is_read(rt: HostRuntime) -> Result<(), Fail> {
         Ok(desk) => desk,
         Err(_) => return Err(Fail::from("no memory")),
     };
-    let mut disk = Alone::new(Core::new(alloc, geometry, SETTINGS)?, NoTape);
+    let core = Core::new(alloc, geometry, SETTINGS)?;
+    let mut disk = Alone::new(core, plain_names(alloc, &geometry), NoTape);
     let mut out = [1];
     let part = Part {
         block: 1,

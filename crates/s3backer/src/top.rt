@@ -1,11 +1,13 @@
 //! The top call.
 
-ghost use Rattle.std.specs.Prelude.{◌≡◌, ◌≤◌, ◌∷◌, [], ◌⊎◌, IfSome, IfOk, codes, length, List, map, string_bytes};
+ghost use Rattle.std.specs.Prelude.{◌≡◌, ◌≤◌, ◌<◌, ◌∷◌, [], ◌⊎◌, IfSome, IfOk, codes, length, List, map, string_bytes};
 ghost use Rattle.sb_world.specs.Told.{Gains, Rose};
 ghost use Rattle.sb_base.specs.Shapes.{IsSound};
 ghost use Rattle.sb_core.specs.Represents.{geometry_of};
 ghost use Rattle.sb_crew.specs.Desks.{HasRoom};
+ghost use Rattle.sb_names.specs.declared.names.TheConstants.{MAX_PREFIX};
 ghost use Rattle.s3backer.specs.Fresh.{IsFresh};
+ghost use Rattle.s3backer.specs.Plans.{naming_of};
 ghost use Rattle.s3backer.specs.Headline.{
   run_status,
   run_line,
@@ -21,15 +23,16 @@ ghost use Rattle.s3backer.specs.Headline.{
   IsUsageLine,
 };
 
+use crate::plan::Plan;
 use crate::settings::SETTINGS;
 use crate::words::{PlanFault, Usage, plan};
 use arrayvec::ArrayString;
 use sb_base::Geometry;
 use sb_core::Core;
-use sb_crew::{Alone, CallFault, Calls, Desk, DeskRefused};
+use sb_crew::{Alone, CallFault, Calls, Desk, DeskRefused, Names};
 use sb_laws::{unwindowed_flushes, unwindowed_is_legal, unwindowed_survives_crash};
 use sb_session::{Buffer, SessionEnd, serve_alone};
-use sb_world::{Bench, Clock, Link, MakeFault, Sink, Source, Tape, World};
+use sb_world::{Bench, Clock, Link, MakeFault, Meta, Sink, Source, Tape, World};
 use std::alloc::{AllocError, Global};
 
 /// What a run leaves: the exit status, and the tape.
@@ -108,37 +111,50 @@ fn complain<S: Sink>(errors: &mut S, line: &[u8])
     }
 }
 
-/// What a session is served with.
-fn make(alloc: Global, geometry: Geometry) -> Result<(Core, Buffer), AllocError>
-    requires { IsSound geometry }
-    ensures core { IfOk result (λ made. IsFresh geometry made.0) }
+/// What a session is served with: a core, a buffer and the names of objects.
+fn make(alloc: Global, plan: &Plan) -> Result<(Core, Buffer, Names), AllocError>
+    requires { IsSound plan.now.geometry }
+    ensures core { IfOk result (λ made. IsFresh plan.now.geometry made.0) }
+    ensures names { IfOk result (λ made. made.2 ≡ naming_of plan.now) }
 {
-    let core = Core::new(alloc, geometry, SETTINGS)?;
+    let core = Core::new(alloc, plan.geometry, SETTINGS)?;
     let buffer = Buffer::new(alloc)?;
-    Ok((core, buffer))
+    let names = Names {
+        prefix: String::from_str(alloc, plan.prefix.as_str())?,
+        hashed: plan.hashed,
+        meta: Meta {
+            size: plan.geometry.size(),
+            block_size: plan.geometry.block_size,
+        },
+    };
+    Ok((core, buffer, names))
 }
 
 /// Serves a session over a new disk, and then flushes it.
 fn serve_disk<L: Link, C: Clock, R: Source, S: Sink, T: Tape>(
+    plan: &Plan,
     core: Core,
     mut buffer: Buffer,
+    names: Names,
     mut desk: Desk<L, C>,
     tape: T,
     input: &mut R,
     output: &mut S,
     errors: &mut S,
 ) -> (u8, T, L, C)
-    requires sound { IsSound (geometry_of core) }
-    requires fresh { IsFresh (geometry_of core) core }
-    requires room { HasRoom (geometry_of core) desk }
+    requires sound { IsSound plan.now.geometry }
+    requires prefix { length plan.now.prefix ≤ MAX_PREFIX }
+    requires fresh { IsFresh plan.now.geometry core }
+    requires names { names ≡ naming_of plan.now }
+    requires room { HasRoom plan.now.geometry desk }
     ensures { ServesSession L.log L.faults C.ticks R.left R.faults S.held S.faults
-        (geometry_of core) desk.link result.2 desk.clock result.3 input.old input.new output.old output.new errors.old
+        plan.now desk.link result.2 desk.clock result.3 input.old input.new output.old output.new errors.old
         errors.new (T.told tape) (T.told result.1) result.0 }
 {
     unwindowed_is_legal();
     unwindowed_flushes();
     unwindowed_survives_crash();
-    let mut disk = Alone::new(core, tape);
+    let mut disk = Alone::new(core, names, tape);
     let end = serve_alone(&mut disk, &mut desk, &mut buffer, input, output);
     let flushed = disk.flush(&mut desk);
     complain_of(errors, end, flushed);
@@ -150,7 +166,7 @@ fn serve_disk<L: Link, C: Clock, R: Source, S: Sink, T: Tape>(
 /// Serves a session with the parts of a bench.
 fn serve_parts<L: Link + Drop, C: Clock + Drop, R: Source, S: Sink, T: Tape + Drop>(
     alloc: Global,
-    geometry: Geometry,
+    plan: &Plan,
     link: L,
     clock: C,
     tape: T,
@@ -158,19 +174,20 @@ fn serve_parts<L: Link + Drop, C: Clock + Drop, R: Source, S: Sink, T: Tape + Dr
     output: &mut S,
     errors: &mut S,
 ) -> (u8, T, L, C)
-    requires { IsSound geometry }
-    ensures { Serves L.log L.faults C.ticks R.left R.faults S.held S.faults geometry link result.2 clock result.3
+    requires sound { IsSound plan.now.geometry }
+    requires prefix { length plan.now.prefix ≤ MAX_PREFIX }
+    ensures { Serves L.log L.faults C.ticks R.left R.faults S.held S.faults plan.now link result.2 clock result.3
         input.old input.new output.old output.new errors.old errors.new (T.told tape) (T.told result.1) result.0 }
 {
-    let (core, buffer) = match make(alloc, geometry) {
+    let (core, buffer, names) = match make(alloc, plan) {
         Ok(made) => made,
         Err(_) => {
             complain(errors, OUT_OF_MEMORY);
             return (12, tape, link, clock);
         }
     };
-    match Desk::new(alloc, link, clock, &geometry) {
-        Ok(desk) => serve_disk(core, buffer, desk, tape, input, output, errors),
+    match Desk::new(alloc, link, clock, &plan.geometry) {
+        Ok(desk) => serve_disk(plan, core, buffer, names, desk, tape, input, output, errors),
         Err(refused) => {
             let DeskRefused { link, clock } = refused;
             complain(errors, OUT_OF_MEMORY);
@@ -179,17 +196,21 @@ fn serve_parts<L: Link + Drop, C: Clock + Drop, R: Source, S: Sink, T: Tape + Dr
     }
 }
 
-/// Serves a session on a bench of one link.
-fn serve_bench<L: Link + Drop, C: Clock + Drop, R: Source, S: Sink, T: Tape + Drop>(
+/// Serves a session on a bench that has a link, and gives the bench back.
+pub fn run_single<W: World, T: Tape + Drop>(
     alloc: Global,
-    geometry: Geometry,
-    bench: Bench<L, C, R, S>,
+    plan: &Plan,
+    bench: Bench<W::Link, W::Clock, W::Source, W::Sink>,
     tape: T,
-) -> (u8, T, Bench<L, C, R, S>)
-    requires sound { IsSound geometry }
-    requires one { length bench.links ≡ 1 }
-    ensures { ServesBench L.log L.faults C.ticks R.left R.faults S.held S.faults geometry bench result.2
-        (T.told tape) (T.told result.1) result.0 }
+) -> (u8, T, Bench<W::Link, W::Clock, W::Source, W::Sink>)
+where
+    W::Link: Drop,
+    W::Clock: Drop,
+    requires sound { IsSound plan.now.geometry }
+    requires prefix { length plan.now.prefix ≤ MAX_PREFIX }
+    requires link { 0 < length bench.links }
+    ensures { ServesBench W.Link.log W.Link.faults W.Clock.ticks W.Source.left W.Source.faults W.Sink.held W.Sink.faults
+        plan.now bench result.2 (T.told tape) (T.told result.1) result.0 }
 {
     let Bench {
         mut links,
@@ -204,7 +225,7 @@ fn serve_bench<L: Link + Drop, C: Clock + Drop, R: Source, S: Sink, T: Tape + Dr
     };
     let (status, tape, link, clock) = serve_parts(
         alloc,
-        geometry,
+        plan,
         link,
         clock,
         tape,
@@ -243,10 +264,11 @@ where
     W::Clock: Drop,
     ensures { RunEnds W.Link.log W.Link.faults W.Clock.ticks W.Source.left W.Source.faults W.Sink.held W.Sink.faults
         (map string_bytes words.now) (W.faults world.old) (W.faults world.new) (W.next world.old) (W.tells world.old)
-        (W.last world.new) (T.told tape) (T.told result.tape) (W.said world.old) (W.said world.new) result.status }
+        (W.last world.new) (W.asks world.old) (W.asks world.new) (T.told tape) (T.told result.tape) (W.said world.old)
+        (W.said world.new) result.status }
 {
-    let geometry = match plan(alloc, words) {
-        Ok(geometry) => geometry,
+    let plan = match plan(alloc, words) {
+        Ok(plan) => plan,
         Err(PlanFault::Usage(usage)) => {
             say_usage(alloc, world, &usage);
             return Outcome { status: 2, tape };
@@ -256,9 +278,9 @@ where
             return Outcome { status: 12, tape };
         }
     };
-    match world.bench(1) {
+    match world.bench(Some(&plan.store), 1) {
         Ok(bench) => {
-            let (status, tape, bench) = serve_bench(alloc, geometry, bench, tape);
+            let (status, tape, bench) = run_single::<W, T>(alloc, &plan, bench, tape);
             world.shut(bench);
             Outcome { status, tape }
         }
@@ -275,7 +297,8 @@ where
 
 /// Says why words are not taken. Without memory for the wording it says that they aren't.
 fn say_usage<W: World>(alloc: Global, world: &mut W, usage: &Usage)
-    ensures { SaysUsage (W.said world.old) (W.said world.new) }
+    ensures says { SaysUsage (W.said world.old) (W.said world.new) }
+    ensures asks { W.asks world.new ≡ W.asks world.old }
 {
     match usage_line(alloc, usage) {
         Ok(line) => world.say(&line),
@@ -298,7 +321,9 @@ fn usage_line(alloc: Global, usage: &Usage) -> Result<Vec<u8>, AllocError>
 fn wording(alloc: Global, usage: &Usage) -> Result<Vec<u8>, AllocError> {
     let mut text = Vec::new(alloc);
     match usage {
-        Usage::NotBuilt => text.extend_from_slice(b"s3backer --stdio --size=SIZE memory")?,
+        Usage::NotBuilt => text.extend_from_slice(
+            b"s3backer --stdio --test [--prefix=TEXT] [--blockHashPrefix] --size=SIZE DIR",
+        )?,
         Usage::BadSize { name, word } => {
             text.extend_from_slice(name.bytes())?;
             text.extend_from_slice(b": not a size: ")?;
@@ -308,6 +333,12 @@ fn wording(alloc: Global, usage: &Usage) -> Result<Vec<u8>, AllocError> {
             let fault = format!(in alloc; "{fault}")?;
             text.extend_from_slice(fault.as_bytes())?;
         }
+        Usage::BadPrefix(prefix) => {
+            text.extend_from_slice(b"--prefix: not a prefix: ")?;
+            text.extend_from_slice(prefix.bytes())?;
+        }
+        Usage::PrefixSlash => text.extend_from_slice(b"--prefix: a slash, with --test")?,
+        Usage::BadBucket(_) => text.extend_from_slice(b"the name of the directory is empty")?,
     }
     text.extend_from_slice(b"\n")?;
     Ok(text)

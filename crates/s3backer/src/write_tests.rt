@@ -3,11 +3,14 @@
 ghost use Rattle.std.specs.Prelude.{◌≡◌, ◌≢◌, ◌≤◌, ◌<◌, None, vec_len};
 
 use crate::settings::SETTINGS;
-use crate::tests::{DISC, HANDSHAKE, OPENING, errors, joined, output, session, session_over};
+use crate::tests::{
+    DISC, HANDSHAKE, OPENING, errors, failing_store, joined, output, plain_names, session,
+    session_over,
+};
 use sb_base::{Geometry, Kind, Line, Part, Text};
 use sb_core::Core;
 use sb_crew::{Alone, Calls, Desk};
-use sb_fakes::{Failing, HandClock, MemoryConn, PlainStore};
+use sb_fakes::{HandClock, MemoryConn, PlainStore, TimedStore};
 use sb_world::{Got, Link, Tape};
 use std::alloc::{AllocError, Global};
 use std::test::Fail;
@@ -76,7 +79,7 @@ fn a_last_flush_that_fails_is_the_status(rt: HostRuntime) -> Result<(), Fail> {
     let write = request(alloc, WRITE, 1, 0, 4096)?;
     let asked = joined(alloc, &[&write, &[0x41; 4096]])?;
     let fails = Vec::from_array(alloc, [1])?;
-    let link = Failing::new(alloc, PlainStore::new(alloc), fails);
+    let link = failing_store(alloc, fails);
     let done = session(alloc, link, &[OPENING, asked.bytes(), DISC], 4096)?;
     let written = reply(alloc, 0, 1)?;
     let wanted = joined(alloc, &[HANDSHAKE, &written])?;
@@ -137,7 +140,8 @@ fn a_write_over_a_border_puts_the_first_block_to_make_room(rt: HostRuntime) -> R
     let kinds = Kinds {
         text: Vec::new(alloc),
     };
-    let mut disk = Alone::new(Core::new(alloc, geometry, SETTINGS)?, kinds);
+    let core = Core::new(alloc, geometry, SETTINGS)?;
+    let mut disk = Alone::new(core, plain_names(alloc, &geometry), kinds);
     assert!(rt; disk.flush(&mut desk).is_ok());
     let first = Part {
         block: 0,
@@ -159,7 +163,7 @@ fn a_write_over_a_border_puts_the_first_block_to_make_room(rt: HostRuntime) -> R
 }
 
 /// The block of a store, `None` where it is absent. A call that fails is made once more.
-fn block_of(link: &mut Failing, name: &[u8]) -> Option<[u8; 4096]> {
+fn block_of(link: &mut TimedStore, name: &[u8]) -> Option<[u8; 4096]> {
     let mut block = [0; 4096];
     let got = match link.get(name, None, &mut block) {
         Ok(got) => got,
@@ -197,7 +201,7 @@ fn a_failed_call_loses_nothing_that_was_flushed(rt: HostRuntime) -> Result<(), F
     let replies = HANDSHAKE.len();
     for call in 1..10 {
         let fails = Vec::from_array(alloc, [call])?;
-        let link = Failing::new(alloc, PlainStore::new(alloc), fails);
+        let link = failing_store(alloc, fails);
         let mut done = session(alloc, link, &[OPENING, asked.bytes(), DISC], 4096)?;
         let first = error_at(output(&done), replies);
         let second = error_at(output(&done), replies + 16);

@@ -7,7 +7,6 @@ use Rattle.std.proofs.Math.Decide.{dec_le}
 use Rattle.std.proofs.Math.Nat.{min-eq_left, min-eq_right, lt_of_not-le}
 use Rattle.std.specs.List.{AllByRecursion}
 use Rattle.std.proofs.lemmas.Bool.{eq-eqb}
-use Rattle.sb_base.specs.declared.geometry.Geometry.{Geometry}
 use Rattle.sb_base.specs.declared.part.Part.{Part}
 use Rattle.sb_base.specs.declared.entry.Entry.{Entry}
 use Rattle.sb_base.specs.declared.entry.EntryKind.{EntryKind}
@@ -27,15 +26,14 @@ use Rattle.sb_history.specs.Flushes.{flush_place, flush_place_after}
 use Rattle.sb_history.specs.Requests.{Replies, RequestLog, IsPutCall, meta_of, put_call}
 use Rattle.sb_core.specs.declared.machine.Core.{Core}
 use Rattle.sb_core.specs.declared.job.GetJob.{GetJob}
-use Rattle.sb_core.specs.Represents.{geometry_of}
 use Rattle.sb_crew.specs.declared.calls.CallFault.{CallFault}
 use Rattle.sb_crew.specs.Counts.{is_failure, Counts}
-use Rattle.sb_crew.specs.Names.{block_name}
+use Rattle.sb_crew.specs.Names.{Naming, name_of}
 use Rattle.sb_crew.specs.Answers.{shown_for, fault_for, EndsAs}
 use Rattle.sb_crew.specs.Outcomes as outcome
 use Rattle.sb_crew.specs.Outcomes.{Outcome, outcomes_of, outcome_of, bytes_read, bytes_of, asked_of, blocks_asked}
 use Rattle.sb_crew.specs.Outcomes.{IsBlockOf, AsksOnly, HasCause, Does, FlushBegun}
-use Rattle.sb_crew.specs.Runs.{sizes_of, any_past, HasBegun, Runs, RunsWhere, Did, DidWhere}
+use Rattle.sb_crew.specs.Runs.{any_past, HasBegun, Runs, RunsWhere, Did, DidWhere}
 use Rattle.sb_crew.specs.Turns.{SoFar, FetchDoes, StoreDoes}
 use Rattle.sb_crew.specs.Joins.{asked_nothing, runs_join, did_join}
 use Rattle.sb_crew.proofs.OutcomeLemmas.{cause_stays}
@@ -68,12 +66,12 @@ abbrev pub event : ℕ → EntryKind → Entry
 event reading of = record { pass = 1; reading = reading; kind = of }
 
 -- the entry of an event is another one, which it is equal to
-runs_of : {Is : List Entry
-    → Type 0} {core core' : Core} {tape tape' : Option (List Entry)} {clock clock' : Option (List Tick)}
-    {entry other : Entry} → entry ≡ other → RunsWhere Is core core' tape tape' clock clock' (entry ∷ [])
-    → RunsWhere Is core core' tape tape' clock clock' (other ∷ [])
-runs_of {Is} {core} {core'} {tape} {tape'} {clock} {clock'} is runs =
-    subst (λ (e : Entry). RunsWhere Is core core' tape tape' clock clock' (e ∷ [])) is runs
+runs_of : {Is : List Entry → Type 0} {names names' : Naming} {core core' : Core} {tape tape' : Option (List Entry)}
+    {clock clock' : Option (List Tick)} {entry other : Entry} → entry ≡ other
+    → RunsWhere Is names names' core core' tape tape' clock clock' (entry ∷ [])
+    → RunsWhere Is names names' core core' tape tape' clock clock' (other ∷ [])
+runs_of {Is} {names} {names'} {core} {core'} {tape} {tape'} {clock} {clock'} is runs =
+    subst (λ (e : Entry). RunsWhere Is names names' core core' tape tape' clock clock' (e ∷ [])) is runs
 
 -- the link's log says what the entry says
 replies_fit : (result : Result Got LinkFault) (bytes : List ℕ)
@@ -95,16 +93,17 @@ ended_so (Ok done) = refl
 ended_so (Err fault) = refl
 
 -- the calls of a put that ended, with its begin
-put_asked : (sizes : Meta) (block : ℕ) (content : List ℕ) (sent : Result Unit LinkFault) (reading later : ℕ)
-    → RequestLog block_name (Some sizes)
+put_asked : (names : Naming) (block : ℕ) (content : List ℕ) (sent : Result Unit LinkFault) (reading later : ℕ)
+    → RequestLog (name_of names) (Some names.meta)
     (event later (kind.PutEnd block (is_ok sent)) ∷ event reading (kind.PutBegin block content) ∷ [])
-    (put_call (block_name block) (meta_of (Some sizes) block) content (fault_of sent) ∷ [])
-put_asked sizes block content sent reading later =
+    (put_call (name_of names block) (meta_of (Some names.meta) block) content (fault_of sent) ∷ [])
+put_asked names block content sent reading later =
     let known : (if nat_eq block block then Some content else None) ≡ Some content =
     ap (λ (t : Bool). if t then Some content else None) (eq-eqb block block refl) in
-    let calls = put_call (block_name block) (meta_of (Some sizes) block) content (fault_of sent) ∷ [] in
+    let calls = put_call (name_of names block) (meta_of (Some names.meta) block) content (fault_of sent) ∷ [] in
     let P : Option (List ℕ) → Type 0 = λ put.
-    IsPutCall (block_name block) (meta_of (Some sizes) block) put (is_ok sent) calls (λ earlier. earlier ≡ []) in
+    IsPutCall (name_of names block) (meta_of (Some names.meta) block) put (is_ok sent) calls
+    (λ earlier. earlier ≡ []) in
     subst P (sym known) (fault_of sent, [], refl, ended_so sent, refl)
 
 -- a put that failed says its fault, as a delete or as a put
@@ -114,21 +113,20 @@ put_fault true name meta content fault = refl
 put_fault false name meta content fault = refl
 
 -- the newest entry is a failure, and the newest call has its fault
-get_failed : (block : ℕ) (verify : Option (List ℕ)) (result : Result Got LinkFault) (bytes : List ℕ) (later : ℕ)
-    (taken : Bool)
-    (fault : CallFault) (before : List Entry) → EndsAs {U = Unit {0}} result (Err fault)
+get_failed : (name : List ℕ) (block : ℕ) (verify : Option (List ℕ)) (result : Result Got LinkFault) (bytes : List ℕ)
+    (later : ℕ) (taken : Bool) (fault : CallFault) (before : List Entry) → EndsAs {U = Unit {0}} result (Err fault)
     → HasCause fault (event later (kind.GetEnd block (shown_for result bytes) verify taken) ∷ before)
-    (call.Get (block_name block) verify (get_reply result bytes) ∷ [])
-get_failed block verify (Ok value) bytes later taken fault before ends = absurd ends
-get_failed block verify (Err cause) bytes later taken fault before ends = (tt, same_fault cause fault ends)
+    (call.Get name verify (get_reply result bytes) ∷ [])
+get_failed name block verify (Ok value) bytes later taken fault before ends = absurd ends
+get_failed name block verify (Err cause) bytes later taken fault before ends = (tt, same_fault cause fault ends)
 
-put_failed : (block : ℕ) (meta : Option Meta) (content : List ℕ) (sent : Result Unit LinkFault) (later : ℕ)
-    (fault : CallFault) (before : List Entry) → EndsAs {U = Unit {0}} sent (Err fault)
+put_failed : (name : List ℕ) (block : ℕ) (meta : Option Meta) (content : List ℕ) (sent : Result Unit LinkFault)
+    (later : ℕ) (fault : CallFault) (before : List Entry) → EndsAs {U = Unit {0}} sent (Err fault)
     → HasCause fault (event later (kind.PutEnd block (is_ok sent)) ∷ before)
-    (put_call (block_name block) meta content (fault_of sent) ∷ [])
-put_failed block meta content (Ok value) later fault before ends = absurd ends
-put_failed block meta content (Err cause) later fault before ends =
-    (refl, put_fault (is_zeros content) (block_name block) meta content (Some cause) ∙ same_fault cause fault ends)
+    (put_call name meta content (fault_of sent) ∷ [])
+put_failed name block meta content (Ok value) later fault before ends = absurd ends
+put_failed name block meta content (Err cause) later fault before ends =
+    (refl, put_fault (is_zeros content) name meta content (Some cause) ∙ same_fault cause fault ends)
 
 -- the entries and the call of a GET
 abbrev pub get_entries : ℕ → GetJob → ℕ → Result Got LinkFault → List ℕ → Bool → List Entry
@@ -136,17 +134,17 @@ get_entries reading job later result bytes taken =
     event later (kind.GetEnd job.block (shown_for result bytes) job.verify taken)
     ∷ event reading (kind.GetBegin job.block job.expect job.verify) ∷ []
 
-abbrev pub get_calls : GetJob → Result Got LinkFault → List ℕ → List Call
-get_calls job result bytes = call.Get (block_name job.block) job.verify (get_reply result bytes) ∷ []
+abbrev pub get_calls : Naming → GetJob → Result Got LinkFault → List ℕ → List Call
+get_calls names job result bytes = call.Get (name_of names job.block) job.verify (get_reply result bytes) ∷ []
 
 -- the entries and the call of a put
 abbrev pub put_entries : ℕ → ℕ → List ℕ → ℕ → Result Unit LinkFault → List Entry
 put_entries reading block content later sent =
     event later (kind.PutEnd block (is_ok sent)) ∷ event reading (kind.PutBegin block content) ∷ []
 
-abbrev pub put_calls : Meta → ℕ → List ℕ → Result Unit LinkFault → List Call
-put_calls sizes block content sent = put_call (block_name block)
-    (meta_of (Some sizes) block) content (fault_of sent) ∷ []
+abbrev pub put_calls : Naming → ℕ → List ℕ → Result Unit LinkFault → List Call
+put_calls names block content sent =
+    put_call (name_of names block) (meta_of (Some names.meta) block) content (fault_of sent) ∷ []
 
 -- a GET asks for its block
 get_asks : (parts : List Part) (before : List Entry) (reading : ℕ) (job : GetJob) (later : ℕ)
@@ -187,79 +185,80 @@ get_fault name verify (Ok got.Same) bytes = refl
 get_fault name verify (Err fault) bytes = refl
 
 -- what a run of events and calls did
-module _ {Then : List Entry
-    → Type 0} {b c : Core} {tape1 tape2 : Option (List Entry)} {clock1 clock2 : Option (List Tick)} where
+module _ {Then : List Entry → Type 0} {names1 names2 : Naming} {b c : Core} {tape1 tape2 : Option (List Entry)}
+    {clock1 clock2 : Option (List Tick)} where
   -- an event that asked for nothing
   event_does : {log1 : Option (List Call)} {faults1 : ℕ} {entry : Entry} (reading : ℕ) (of : EntryKind)
       → entry ≡ event reading of
-      → RequestLog block_name (Some (sizes_of (geometry_of b))) (event reading of ∷ []) []
-      → RunsWhere Then b c tape1 tape2 clock1 clock2 (entry ∷ [])
-      → DidWhere Then b c tape1 tape2 log1 log1 faults1 faults1 clock1 clock2 (event reading of ∷ []) []
+      → RequestLog (name_of names1) (Some names1.meta) (event reading of ∷ []) []
+      → RunsWhere Then names1 names2 b c tape1 tape2 clock1 clock2 (entry ∷ [])
+      → DidWhere Then names1 names2 b c tape1 tape2 log1 log1 faults1 faults1 clock1 clock2 (event reading of ∷ []) []
   event_does {log1} {faults1} reading of is quiet runs =
       record { runs = runs_of is runs; asked = asked_nothing log1 faults1; requests = quiet }
 
-  get_does : {d : Core} {tape3 : Option (List Entry)} {log1 log3 : Option (List Call)} {faults1 faults3 : ℕ}
-      {clock3 : Option (List Tick)}
-      {entry : Entry} {ended : Result Unit CallFault} (reading : ℕ) (job : GetJob)
-      → entry ≡ event reading (kind.GetBegin job.block job.expect job.verify)
-      → RunsWhere Then b c tape1 tape2 clock1 clock2 (entry ∷ [])
-      → (fetched : FetchDoes (Runs c d tape2 tape3 clock2 clock3) (Gains log1 log3)
-      (CountsFaults faults1 faults3) job.block job.verify ended)
-      → DidWhere Then b d tape1 tape3 log1 log3 faults1 faults3 clock1 clock3
+  get_does : {names3 : Naming} {d : Core} {tape3 : Option (List Entry)} {log1 log3 : Option (List Call)}
+      {faults1 faults3 : ℕ} {clock3 : Option (List Tick)} {entry : Entry} {ended : Result Unit CallFault}
+      (reading : ℕ) (job : GetJob) → entry ≡ event reading (kind.GetBegin job.block job.expect job.verify)
+      → RunsWhere Then names1 names2 b c tape1 tape2 clock1 clock2 (entry ∷ [])
+      → (fetched : FetchDoes (Runs names2 names3 c d tape2 tape3 clock2 clock3) (Gains log1 log3)
+      (CountsFaults faults1 faults3) names2 job.block job.verify ended)
+      → DidWhere Then names1 names3 b d tape1 tape3 log1 log3 faults1 faults3 clock1 clock3
       (get_entries reading job fetched.answer.reading fetched.got fetched.bytes fetched.answer.taken)
-      (get_calls job fetched.got fetched.bytes)
-  get_does {faults1 = faults1} {faults3 = faults3} reading job is runs fetched = record {
+      (get_calls names1 job fetched.got fetched.bytes)
+  get_does {log1 = log1} {log3 = log3} {faults1 = faults1} {faults3 = faults3} reading job is runs fetched = record {
     runs = runs_join (λ past fits. tt) (runs_of is runs) fetched.answer.ran;
     asked = record {
-      gained = fetched.called;
-      counted = counts_so faults1 faults3 fetched.got (call.Get (block_name job.block) job.verify
-          (get_reply fetched.got fetched.bytes))
-          (get_fault (block_name job.block) job.verify fetched.got fetched.bytes) fetched.counted;
+      gained = subst (λ (names : Naming). Gains log1 log3 (get_calls names job fetched.got fetched.bytes))
+          runs.same_names fetched.called;
+      counted = counts_so faults1 faults3 fetched.got
+          (call.Get (name_of names1 job.block) job.verify (get_reply fetched.got fetched.bytes))
+          (get_fault (name_of names1 job.block) job.verify fetched.got fetched.bytes) fetched.counted;
     };
     requests =
         (get_reply fetched.got fetched.bytes, [], refl, replies_fit fetched.got fetched.bytes, refl);
   }
 
-  put_does : {d : Core} {tape3 : Option (List Entry)} {log1 log3 : Option (List Call)} {faults1 faults3 : ℕ}
-      {clock3 : Option (List Tick)}
-      {entry : Entry} {ended : Result Unit CallFault} (reading block : ℕ) (content : List ℕ)
-      → entry ≡ event reading (kind.PutBegin block content)
-      → RunsWhere Then b c tape1 tape2 clock1 clock2 (entry ∷ [])
-      → (stored : StoreDoes (Runs c d tape2 tape3 clock2 clock3) (Gains log1 log3) (CountsFaults faults1 faults3)
-      (sizes_of (geometry_of b)) block content ended)
-      → DidWhere Then b d tape1 tape3 log1 log3 faults1 faults3 clock1 clock3
+  put_does : {names3 : Naming} {d : Core} {tape3 : Option (List Entry)} {log1 log3 : Option (List Call)}
+      {faults1 faults3 : ℕ} {clock3 : Option (List Tick)} {entry : Entry} {ended : Result Unit CallFault}
+      (reading block : ℕ) (content : List ℕ) → entry ≡ event reading (kind.PutBegin block content)
+      → RunsWhere Then names1 names2 b c tape1 tape2 clock1 clock2 (entry ∷ [])
+      → (stored : StoreDoes (Runs names2 names3 c d tape2 tape3 clock2 clock3) (Gains log1 log3)
+      (CountsFaults faults1 faults3) names2 block content ended)
+      → DidWhere Then names1 names3 b d tape1 tape3 log1 log3 faults1 faults3 clock1 clock3
       (put_entries reading block content stored.reading stored.sent)
-      (put_calls (sizes_of (geometry_of b)) block content stored.sent)
-  put_does {faults1 = faults1} {faults3 = faults3} reading block content is runs stored = record {
-    runs = runs_join (λ past fits. tt) (runs_of is runs) stored.ran;
-    asked = record {
-      gained = stored.called;
-      counted = counts_so faults1 faults3 stored.sent
-          (put_call (block_name block) (meta_of (Some (sizes_of (geometry_of b))) block) content (fault_of stored.sent))
-          (put_fault (is_zeros content) (block_name block)
-          (meta_of (Some (sizes_of (geometry_of b))) block) content (fault_of stored.sent))
-          stored.counted;
-    };
-    requests = put_asked (sizes_of (geometry_of b)) block content stored.sent reading stored.reading;
-  }
+      (put_calls names1 block content stored.sent)
+  put_does {log1 = log1} {log3 = log3} {faults1 = faults1} {faults3 = faults3} reading block content is runs
+      stored = record {
+        runs = runs_join (λ past fits. tt) (runs_of is runs) stored.ran;
+        asked = record {
+          gained = subst (λ (names : Naming). Gains log1 log3 (put_calls names block content stored.sent))
+              runs.same_names stored.called;
+          counted = counts_so faults1 faults3 stored.sent
+              (put_call (name_of names1 block) (meta_of (Some names1.meta) block) content (fault_of stored.sent))
+              (put_fault (is_zeros content) (name_of names1 block) (meta_of (Some names1.meta) block) content
+              (fault_of stored.sent)) stored.counted;
+        };
+        requests = put_asked names1 block content stored.sent reading stored.reading;
+      }
 
 -- what a call did so far, and then what these entries and calls of the link say
-module _ {Then : List Entry → Type 0} {met : List Outcome} {a b : Core} {tape tape1 : Option (List Entry)}
-    {log log1 : Option (List Call)} {faults faults1 : ℕ} {clock clock1 : Option (List Tick)} {parts : List Part} where
-  did_more : {c : Core} {tape2 : Option (List Entry)} {log2 : Option (List Call)} {faults2 : ℕ}
-      {clock2 : Option (List Tick)}
-      {ys : List Entry}
-      {vs : List Call} (before : SoFar Then met a b tape tape1 log log1 faults faults1 clock clock1 parts)
-      → DidWhere Then b c tape1 tape2 log1 log2 faults1 faults2 clock1 clock2 ys vs
-      → Did a c tape tape2 log log2 faults faults2 clock clock2 (ys ++ before.entries) (vs ++ before.calls)
+module _ {Then : List Entry → Type 0} {met : List Outcome} {names names1 : Naming} {a b : Core}
+    {tape tape1 : Option (List Entry)} {log log1 : Option (List Call)} {faults faults1 : ℕ}
+    {clock clock1 : Option (List Tick)} {parts : List Part} where
+  did_more : {names2 : Naming} {c : Core} {tape2 : Option (List Entry)} {log2 : Option (List Call)} {faults2 : ℕ}
+      {clock2 : Option (List Tick)} {ys : List Entry} {vs : List Call}
+      (before : SoFar Then met names names1 a b tape tape1 log log1 faults faults1 clock clock1 parts)
+      → DidWhere Then names1 names2 b c tape1 tape2 log1 log2 faults1 faults2 clock1 clock2 ys vs
+      → Did names names2 a c tape tape2 log log2 faults faults2 clock clock2 (ys ++ before.entries) (vs ++ before.calls)
   did_more before more = did_join (λ past fits. before.leads past) before.done more
 
   -- another block left the cache
-  pub after_drop : {c : Core} {tape2 : Option (List Entry)} {clock2 : Option (List Tick)} {entry : Entry}
-      → Lasts Then → SoFar Then met a b tape tape1 log log1 faults faults1 clock clock1 parts
+  pub after_drop : {names2 : Naming} {c : Core} {tape2 : Option (List Entry)} {clock2 : Option (List Tick)}
+      {entry : Entry}
+      → Lasts Then → SoFar Then met names names1 a b tape tape1 log log1 faults faults1 clock clock1 parts
       → (reading dropped : ℕ) → entry ≡ event reading (kind.Dropped dropped)
-      → RunsWhere Then b c tape1 tape2 clock1 clock2 (entry ∷ [])
-      → SoFar Then met a c tape tape2 log log1 faults faults1 clock clock2 parts
+      → RunsWhere Then names1 names2 b c tape1 tape2 clock1 clock2 (entry ∷ [])
+      → SoFar Then met names names2 a c tape tape2 log log1 faults faults1 clock clock2 parts
   after_drop lasts before reading dropped is runs = record {
     entries = event reading (kind.Dropped dropped) ∷ before.entries;
     calls = before.calls;
@@ -272,12 +271,13 @@ module _ {Then : List Entry → Type 0} {met : List Outcome} {a b : Core} {tape 
   }
 
   -- the event that answers the call
-  pub ends_with : {c : Core} {tape2 : Option (List Entry)} {clock2 : Option (List Tick)} {entry : Entry}
-      → SoFar Then met a b tape tape1 log log1 faults faults1 clock clock1 parts
+  pub ends_with : {names2 : Naming} {c : Core} {tape2 : Option (List Entry)} {clock2 : Option (List Tick)}
+      {entry : Entry}
+      → SoFar Then met names names1 a b tape tape1 log log1 faults faults1 clock clock1 parts
       → (reading : ℕ) (of : EntryKind) → entry ≡ event reading of
-      → RequestLog block_name (Some (sizes_of (geometry_of b))) (event reading of ∷ []) [] → asked_of of ≡ []
-      → RunsWhere Then b c tape1 tape2 clock1 clock2 (entry ∷ [])
-      → Does (Did a c tape tape2 log log1 faults faults1 clock clock2) parts
+      → RequestLog (name_of names1) (Some names1.meta) (event reading of ∷ []) [] → asked_of of ≡ []
+      → RunsWhere Then names1 names2 b c tape1 tape2 clock1 clock2 (entry ∷ [])
+      → Does (Did names names2 a c tape tape2 log log1 faults faults1 clock clock2) parts
       (λ entries calls. (outcomes_of entries ≡ outcome_of of ++ met) × (bytes_read entries ≡ bytes_of of))
   ends_with before reading of is quiet asks runs = record {
     entries = event reading of ∷ before.entries;
@@ -291,20 +291,21 @@ module _ {Then : List Entry → Type 0} {met : List Outcome} {a b : Core} {tape 
   }
 
   -- a GET was made
-  pub after_get : {c d : Core} {tape2 tape3 : Option (List Entry)} {log3 : Option (List Call)} {faults3 : ℕ}
-      {clock2 clock3 : Option (List Tick)} {entry : Entry} {ended : Result Unit CallFault}
-      → Lasts Then → SoFar Then met a b tape tape1 log log1 faults faults1 clock clock1 parts
+  pub after_get : {names2 names3 : Naming} {c d : Core} {tape2 tape3 : Option (List Entry)}
+      {log3 : Option (List Call)} {faults3 : ℕ} {clock2 clock3 : Option (List Tick)} {entry : Entry}
+      {ended : Result Unit CallFault}
+      → Lasts Then → SoFar Then met names names1 a b tape tape1 log log1 faults faults1 clock clock1 parts
       → (reading : ℕ) (job : GetJob)
       → entry ≡ event reading (kind.GetBegin job.block job.expect job.verify) → IsBlockOf parts job.block
-      → RunsWhere Then b c tape1 tape2 clock1 clock2 (entry ∷ [])
-      → FetchDoes (Runs c d tape2 tape3 clock2 clock3) (Gains log1 log3)
-      (CountsFaults faults1 faults3) job.block job.verify ended
-      → SoFar Then met a d tape tape3 log log3 faults faults3 clock clock3 parts
+      → RunsWhere Then names1 names2 b c tape1 tape2 clock1 clock2 (entry ∷ [])
+      → FetchDoes (Runs names2 names3 c d tape2 tape3 clock2 clock3) (Gains log1 log3)
+      (CountsFaults faults1 faults3) names2 job.block job.verify ended
+      → SoFar Then met names names3 a d tape tape3 log log3 faults faults3 clock clock3 parts
   after_get lasts before reading job is same runs fetched =
       let more = get_entries reading job fetched.answer.reading fetched.got fetched.bytes fetched.answer.taken in
       record {
         entries = more ++ before.entries;
-        calls = get_calls job fetched.got fetched.bytes ++ before.calls;
+        calls = get_calls names1 job fetched.got fetched.bytes ++ before.calls;
         done = did_more before (get_does reading job is runs fetched);
         met_so = before.met_so;
         no_bytes = ap (λ bs. (bs ++ []) ++ []) before.no_bytes;
@@ -314,55 +315,53 @@ module _ {Then : List Entry → Type 0} {met : List Outcome} {a b : Core} {tape 
       }
 
   -- a GET failed
-  pub get_fails : {c d : Core} {tape2 tape3 : Option (List Entry)} {log3 : Option (List Call)} {faults3 : ℕ}
-      {clock2 clock3 : Option (List Tick)} {entry : Entry} {ended : Result Unit CallFault}
-      → SoFar Then met a b tape tape1 log log1 faults faults1 clock clock1 parts → (reading : ℕ) (job : GetJob)
-      → entry ≡ event reading (kind.GetBegin job.block job.expect job.verify) → IsBlockOf parts job.block
-      → RunsWhere Then b c tape1 tape2 clock1 clock2 (entry ∷ [])
-      → FetchDoes (Runs c d tape2 tape3 clock2 clock3) (Gains log1 log3)
-      (CountsFaults faults1 faults3) job.block job.verify ended
+  pub get_fails : {names2 names3 : Naming} {c d : Core} {tape2 tape3 : Option (List Entry)}
+      {log3 : Option (List Call)} {faults3 : ℕ} {clock2 clock3 : Option (List Tick)} {entry : Entry}
+      {ended : Result Unit CallFault}
+      → SoFar Then met names names1 a b tape tape1 log log1 faults faults1 clock clock1 parts
+      → (reading : ℕ) (job : GetJob) → entry ≡ event reading (kind.GetBegin job.block job.expect job.verify)
+      → IsBlockOf parts job.block
+      → RunsWhere Then names1 names2 b c tape1 tape2 clock1 clock2 (entry ∷ [])
+      → FetchDoes (Runs names2 names3 c d tape2 tape3 clock2 clock3) (Gains log1 log3)
+      (CountsFaults faults1 faults3) names2 job.block job.verify ended
       → (fault : CallFault) → ended ≡ Err fault
-      → Does (Did a d tape tape3 log log3 faults faults3 clock clock3) parts
+      → Does (Did names names3 a d tape tape3 log log3 faults faults3 clock clock3) parts
       (λ entries calls. (outcomes_of entries ≡ met) × HasCause fault entries calls)
   get_fails before reading job is same runs fetched fault failed =
       let ends : EndsAs {U = Unit {0}} fetched.got (Err fault) =
       subst (λ (r : Result Unit CallFault). EndsAs fetched.got r) failed fetched.answer.ends in
       let begun = event reading (kind.GetBegin job.block job.expect job.verify) in
-      let cause = get_failed job.block job.verify fetched.got fetched.bytes fetched.answer.reading
-      fetched.answer.taken fault (begun ∷ []) ends in
+      let cause = get_failed (name_of names1 job.block) job.block job.verify fetched.got fetched.bytes
+      fetched.answer.reading fetched.answer.taken fault (begun ∷ []) ends in
       let more = get_entries reading job fetched.answer.reading fetched.got fetched.bytes fetched.answer.taken in
       record {
         entries = more ++ before.entries;
-        calls = get_calls job fetched.got fetched.bytes ++ before.calls;
+        calls = get_calls names1 job fetched.got fetched.bytes ++ before.calls;
         done = did_more before (get_does reading job is runs fetched);
         ends = (
           before.met_so,
-          cause_stays fault before.entries more before.calls (get_calls job fetched.got fetched.bytes) cause,
+          cause_stays fault before.entries more before.calls (get_calls names1 job fetched.got fetched.bytes) cause,
         );
         asks = get_asks parts before.entries reading job fetched.answer.reading fetched.got fetched.bytes
             fetched.answer.taken before.asks same;
       }
 
   -- a put was made
-  pub after_put : {c d : Core} {tape2 tape3 : Option (List Entry)} {log3 : Option (List Call)} {faults3 : ℕ}
-      {clock2 clock3 : Option (List Tick)} {entry : Entry} {ended : Result Unit CallFault}
-      → Lasts Then → SoFar Then met a b tape tape1 log log1 faults faults1 clock clock1 parts
+  pub after_put : {names2 names3 : Naming} {c d : Core} {tape2 tape3 : Option (List Entry)}
+      {log3 : Option (List Call)} {faults3 : ℕ} {clock2 clock3 : Option (List Tick)} {entry : Entry}
+      {ended : Result Unit CallFault}
+      → Lasts Then → SoFar Then met names names1 a b tape tape1 log log1 faults faults1 clock clock1 parts
       → (reading block : ℕ) (content : List ℕ)
       → entry ≡ event reading (kind.PutBegin block content)
-      → (runs : RunsWhere Then b c tape1 tape2 clock1 clock2 (entry ∷ []))
-      → StoreDoes (Runs c d tape2 tape3 clock2 clock3) (Gains log1 log3) (CountsFaults faults1 faults3)
-      (sizes_of (geometry_of c)) block content ended
-      → SoFar Then met a d tape tape3 log log3 faults faults3 clock clock3 parts
-  after_put {c} {d} {tape2} {tape3} {log3} {faults3} {clock2} {clock3}
-      {ended = ended} lasts before reading block content is runs stores =
-      let P : Geometry → Type 0 = λ g.
-      StoreDoes (Runs c d tape2 tape3 clock2 clock3) (Gains log1 log3) (CountsFaults faults1 faults3)
-      (sizes_of g) block content ended in
-      let stored = subst P runs.base.geometry stores in
+      → RunsWhere Then names1 names2 b c tape1 tape2 clock1 clock2 (entry ∷ [])
+      → StoreDoes (Runs names2 names3 c d tape2 tape3 clock2 clock3) (Gains log1 log3)
+      (CountsFaults faults1 faults3) names2 block content ended
+      → SoFar Then met names names3 a d tape tape3 log log3 faults faults3 clock clock3 parts
+  after_put lasts before reading block content is runs stored =
       let more = put_entries reading block content stored.reading stored.sent in
       record {
         entries = more ++ before.entries;
-        calls = put_calls (sizes_of (geometry_of b)) block content stored.sent ++ before.calls;
+        calls = put_calls names1 block content stored.sent ++ before.calls;
         done = did_more before (put_does reading block content is runs stored);
         met_so = before.met_so;
         no_bytes = ap (λ bs. (bs ++ []) ++ []) before.no_bytes;
@@ -371,46 +370,40 @@ module _ {Then : List Entry → Type 0} {met : List Outcome} {a b : Core} {tape 
       }
 
   -- a put failed
-  pub put_fails : {c d : Core} {tape2 tape3 : Option (List Entry)} {log3 : Option (List Call)} {faults3 : ℕ}
-      {clock2 clock3 : Option (List Tick)} {entry : Entry} {ended : Result Unit CallFault}
-      → SoFar Then met a b tape tape1 log log1 faults faults1 clock clock1 parts
+  pub put_fails : {names2 names3 : Naming} {c d : Core} {tape2 tape3 : Option (List Entry)}
+      {log3 : Option (List Call)} {faults3 : ℕ} {clock2 clock3 : Option (List Tick)} {entry : Entry}
+      {ended : Result Unit CallFault}
+      → SoFar Then met names names1 a b tape tape1 log log1 faults faults1 clock clock1 parts
       → (reading block : ℕ) (content : List ℕ)
       → entry ≡ event reading (kind.PutBegin block content)
-      → (runs : RunsWhere Then b c tape1 tape2 clock1 clock2 (entry ∷ []))
-      → StoreDoes (Runs c d tape2 tape3 clock2 clock3) (Gains log1 log3) (CountsFaults faults1 faults3)
-      (sizes_of (geometry_of c)) block content ended
+      → RunsWhere Then names1 names2 b c tape1 tape2 clock1 clock2 (entry ∷ [])
+      → StoreDoes (Runs names2 names3 c d tape2 tape3 clock2 clock3) (Gains log1 log3)
+      (CountsFaults faults1 faults3) names2 block content ended
       → (fault : CallFault) → ended ≡ Err fault
-      → Does (Did a d tape tape3 log log3 faults faults3 clock clock3) parts
+      → Does (Did names names3 a d tape tape3 log log3 faults faults3 clock clock3) parts
       (λ entries calls. (outcomes_of entries ≡ met) × HasCause fault entries calls)
-  put_fails {c} {d} {tape2} {tape3} {log3} {faults3} {clock2} {clock3}
-      {ended = ended} before reading block content is runs stores fault failed =
-      let P : Geometry → Type 0 = λ g.
-      StoreDoes (Runs c d tape2 tape3 clock2 clock3) (Gains log1 log3) (CountsFaults faults1 faults3)
-      (sizes_of g) block content ended in
-      let stored = subst P runs.base.geometry stores in
+  put_fails before reading block content is runs stored fault failed =
       let ends : EndsAs {U = Unit {0}} stored.sent (Err fault) =
       subst (λ (r : Result Unit CallFault). EndsAs stored.sent r) failed stored.ends in
       let more = put_entries reading block content stored.reading stored.sent in
-      let cause = put_failed block (meta_of (Some (sizes_of
-      (geometry_of b))) block) content stored.sent stored.reading fault
-      (event reading (kind.PutBegin block content) ∷ []) ends in
+      let cause = put_failed (name_of names1 block) block (meta_of (Some names1.meta) block) content stored.sent
+      stored.reading fault (event reading (kind.PutBegin block content) ∷ []) ends in
       record {
         entries = more ++ before.entries;
-        calls = put_calls (sizes_of (geometry_of b)) block content stored.sent ++ before.calls;
+        calls = put_calls names1 block content stored.sent ++ before.calls;
         done = did_more before (put_does reading block content is runs stored);
         ends = (
           before.met_so,
-          cause_stays fault before.entries more before.calls (put_calls (sizes_of
-              (geometry_of b)) block content stored.sent) cause,
+          cause_stays fault before.entries more before.calls (put_calls names1 block content stored.sent) cause,
         );
         asks = record { asked = before.asks.asked };
       }
 
 -- the begin of a flush
-pub begins_flush : {a b : Core} {tape tape1 : Option (List Entry)} {log : Option (List Call)} {faults : ℕ}
-    {clock clock1 : Option (List Tick)} (reading mark : ℕ)
-    → Runs a b tape tape1 clock clock1 (event reading (kind.FlushBegin mark) ∷ [])
-    → SoFar (HasBegun mark) (FlushBegun mark ∷ []) a b tape tape1 log log faults faults clock clock1 []
+pub begins_flush : {names names1 : Naming} {a b : Core} {tape tape1 : Option (List Entry)} {log : Option (List Call)}
+    {faults : ℕ} {clock clock1 : Option (List Tick)} (reading mark : ℕ)
+    → Runs names names1 a b tape tape1 clock clock1 (event reading (kind.FlushBegin mark) ∷ [])
+    → SoFar (HasBegun mark) (FlushBegun mark ∷ []) names names1 a b tape tape1 log log faults faults clock clock1 []
 begins_flush {log = log} {faults = faults} reading mark runs = record {
   entries = event reading (kind.FlushBegin mark) ∷ [];
   calls = [];

@@ -1,6 +1,5 @@
 -- How a link's count of faults goes with its calls. Calls are newest first.
 use Rattle.std.specs.Prelude.{ℕ, ◌+◌, ◌-◌, ◌^◌, ◌≤◌, ◌⊎◌, Bool, true, false, if◌then◌else◌, List, [], ◌∷◌, Option, Some}
-use Rattle.std.specs.Prelude.{None}
 use Rattle.sb_world.specs.Told.{Gains}
 use Rattle.sb_world.specs.declared.link.Call.{Call}
 use Rattle.sb_world.specs.declared.link.LinkFault.{LinkFault}

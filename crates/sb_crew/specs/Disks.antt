@@ -3,11 +3,15 @@ use Rattle.std.specs.Prelude.{vec_len}
 use Rattle.sb_core.specs.declared.machine.Core.{Core}
 use Rattle.sb_crew.specs.declared.alone.Alone.{Alone}
 use Rattle.sb_crew.specs.declared.desk.Desk.{Desk}
+use Rattle.sb_crew.specs.Names.{Naming}
 use Rattle.sb_crew.specs.Ready.{IsReady}
 
--- the disk's core, and its tape
+-- the disk's core, its names, and its tape
 abbrev pub core_of : {T : Type 0} → Alone T → Core
 core_of disk = disk.core
+
+abbrev pub names_of : {T : Type 0} → Alone T → Naming
+names_of disk = disk.names
 
 abbrev pub tape_of : {T : Type 0} → Alone T → T
 tape_of disk = disk.tape

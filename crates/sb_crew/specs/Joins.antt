@@ -13,10 +13,10 @@ use Rattle.sb_history.specs.ClockTrace.{ClockTrace}
 use Rattle.sb_laws.proofs.Joins.{requests_join, clock_traces_join}
 use Rattle.sb_core.specs.declared.machine.Core.{Core}
 use Rattle.sb_core.specs.Represents.{Represents, geometry_of, settings_of}
-use Rattle.sb_crew.specs.Names.{block_name}
+use Rattle.sb_crew.specs.Names.{Naming, name_of}
 use Rattle.sb_crew.specs.Outcomes.{fault_of}
-use Rattle.sb_crew.specs.Counts.{is_failure, failures, Counts, Asked}
-use Rattle.sb_crew.specs.Runs.{only_caller, sizes_of, RunsWhere, DidWhere}
+use Rattle.sb_crew.specs.Counts.{is_failure, failures, Asked}
+use Rattle.sb_crew.specs.Runs.{only_caller, RunsWhere, DidWhere}
 
 -- what was gained, and what was gained then
 pub gains_join : {X : Type 0} (a b c : Option (List X)) (xs ys : List X) → Gains a b xs → Gains b c ys
@@ -77,17 +77,18 @@ pass_joins xs [] first second = first
 pass_joins xs (y ∷ ys) first second = (second.0, pass_joins xs ys first second.1)
 
 -- a run over histories of one kind, and one over those that it leads to
-pub runs_join : {Is Then : List Entry → Type 0} {a b c : Core} {tape tape' tape'' : Option (List Entry)}
-    {clock clock' clock'' : Option (List Tick)} {xs ys : List Entry} → ((past : List Entry) → Is past
-    → Then (xs ++ past))
-    → RunsWhere Is a b tape tape' clock clock' xs → RunsWhere Then b c tape' tape'' clock' clock'' ys
-    → RunsWhere Is a c tape tape'' clock clock'' (ys ++ xs)
-runs_join {Is} {Then} {a} {b} {c} {tape} {tape'} {tape''} {clock} {clock'} {clock''} {xs}
+pub runs_join : {Is Then : List Entry → Type 0} {names names' names'' : Naming} {a b c : Core}
+    {tape tape' tape'' : Option (List Entry)} {clock clock' clock'' : Option (List Tick)} {xs ys : List Entry}
+    → ((past : List Entry) → Is past → Then (xs ++ past))
+    → RunsWhere Is names names' a b tape tape' clock clock' xs
+    → RunsWhere Then names' names'' b c tape' tape'' clock' clock'' ys
+    → RunsWhere Is names names'' a c tape tape'' clock clock'' (ys ++ xs)
+runs_join {Is} {Then} {names} {names'} {names''} {a} {b} {c} {tape} {tape'} {tape''} {clock} {clock'} {clock''} {xs}
     {ys} leads first second = record {
+      same_names = second.same_names ∙ first.same_names;
       base = record {
         geometry = second.base.geometry ∙ first.base.geometry;
-        settings = second.base.settings
-            ∙ first.base.settings;
+        settings = second.base.settings ∙ first.base.settings;
       };
       history = λ past fits is.
           subst (Represents c) (sym (append_assoc ys xs past))
@@ -105,28 +106,30 @@ runs_join {Is} {Then} {a} {b} {c} {tape} {tape'} {tape''} {clock} {clock'} {cloc
     }
 
 -- what was done to histories of one kind, and then to those that it leads to
-pub did_join : {Is Then : List Entry → Type 0} {a b c : Core} {tape tape' tape'' : Option (List Entry)}
-    {log log' log'' : Option (List Call)} {faults faults' faults'' : ℕ}
+pub did_join : {Is Then : List Entry → Type 0} {names names' names'' : Naming} {a b c : Core}
+    {tape tape' tape'' : Option (List Entry)} {log log' log'' : Option (List Call)} {faults faults' faults'' : ℕ}
     {clock clock' clock'' : Option (List Tick)} {xs ys : List Entry} {us vs : List Call}
     → ((past : List Entry) → Is past → Then (xs ++ past))
-    → DidWhere Is a b tape tape' log log' faults faults' clock clock' xs us
-    → DidWhere Then b c tape' tape'' log' log'' faults' faults'' clock' clock'' ys vs
-    → DidWhere Is a c tape tape'' log log'' faults faults'' clock clock'' (ys ++ xs) (vs ++ us)
-did_join {Is} {Then} {a} {b} {c} {tape} {tape'} {tape''} {log} {log'} {log''} {faults} {faults'} {faults''} {clock}
-    {clock'} {clock''} {xs} {ys} {us} {vs} leads first second =
-    let P : Geometry → Type 0 = λ g. RequestLog block_name (Some (sizes_of g)) ys vs in
+    → DidWhere Is names names' a b tape tape' log log' faults faults' clock clock' xs us
+    → DidWhere Then names' names'' b c tape' tape'' log' log'' faults' faults'' clock' clock'' ys vs
+    → DidWhere Is names names'' a c tape tape'' log log'' faults faults'' clock clock'' (ys ++ xs) (vs ++ us)
+did_join {Is} {Then} {names} {names'} {names''} {a} {b} {c} {tape} {tape'} {tape''} {log} {log'} {log''} {faults}
+    {faults'} {faults''} {clock} {clock'} {clock''} {xs} {ys} {us} {vs} leads first second =
+    let P : Naming → Type 0 = λ n. RequestLog (name_of n) (Some n.meta) ys vs in
     record {
       runs = runs_join leads first.runs second.runs;
       asked = asked_join log log' log'' faults faults' faults'' us vs first.asked second.asked;
-      requests = requests_join block_name (Some (sizes_of (geometry_of a))) xs ys us vs first.requests
-          (subst P first.runs.base.geometry second.requests);
+      requests = requests_join (name_of names) (Some names.meta) xs ys us vs first.requests
+          (subst P first.runs.same_names second.requests);
     }
 
 -- nothing was done
-pub did_nothing : {Is : List Entry → Type 0} {core : Core} {tape : Option (List Entry)} {log : Option (List Call)}
-    {faults : ℕ} {clock : Option (List Tick)} → DidWhere Is core core tape tape log log faults faults clock clock [] []
-did_nothing {core} {tape} {log} {faults} {clock} = record {
+pub did_nothing : {Is : List Entry → Type 0} {names : Naming} {core : Core} {tape : Option (List Entry)}
+    {log : Option (List Call)} {faults : ℕ} {clock : Option (List Tick)}
+    → DidWhere Is names names core core tape tape log log faults faults clock clock [] []
+did_nothing {names} {core} {tape} {log} {faults} {clock} = record {
   runs = record {
+    same_names = refl;
     base = record { geometry = refl; settings = refl };
     history = λ past fits is. is;
     of_pass = tt;

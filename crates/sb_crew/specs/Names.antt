@@ -1,8 +1,14 @@
--- The names of objects.
-use Rattle.std.specs.Prelude.{ℕ, List}
-use Rattle.std.specs.Int.{w32, to_be_bytes}
-use Rattle.hex.specs.Hex.{encode_lower}
+-- The names of a disk's objects, and what its first block's object carries.
+use Rattle.std.specs.Prelude.{ℕ, Bool, List}
+use Rattle.sb_world.specs.declared.link.Meta.{Meta}
+use Rattle.sb_names.specs.Names.{object_name_of}
 
--- a block's number in eight lower-case hex digits
-abbrev pub block_name : ℕ → List ℕ
-block_name block = encode_lower (to_be_bytes w32 block)
+-- what a disk's names are made of, the prefix by its bytes, and the sizes that its first block's object carries
+pub record Naming : Type 0 where
+  pub prefix : List ℕ
+  pub hashed : Bool
+  pub meta : Meta
+
+-- the name of a block's object
+abbrev pub name_of : Naming → ℕ → List ℕ
+name_of names block = object_name_of names.prefix block names.hashed

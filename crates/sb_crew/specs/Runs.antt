@@ -1,7 +1,6 @@
 -- What the calls of a disk on one thread did: how the core moved, and what tape, link and clock gained. Entries, calls
--- and
--- ticks are newest first.
-use Rattle.std.specs.Prelude.{ℕ, ◌*◌, true, List, ◌++◌, Option, Some, None, IsSome}
+-- and ticks are newest first.
+use Rattle.std.specs.Prelude.{ℕ, ◌≡◌, ◌*◌, true, List, ◌++◌, Option, Some, None, IsSome}
 use Rattle.sb_base.specs.declared.geometry.Geometry.{Geometry}
 use Rattle.sb_base.specs.declared.entry.Entry.{Entry}
 use Rattle.sb_world.specs.Told.{Gains}
@@ -15,14 +14,14 @@ use Rattle.sb_history.specs.ClockTrace.{Caller, ClockTrace}
 use Rattle.sb_core.specs.declared.machine.Core.{Core}
 use Rattle.sb_core.specs.Represents.{Represents, geometry_of, settings_of}
 use Rattle.sb_core.specs.Progress.{SameBase}
-use Rattle.sb_crew.specs.Names.{block_name}
+use Rattle.sb_crew.specs.Names.{Naming, name_of}
 use Rattle.sb_crew.specs.Counts.{Asked}
 
 -- the one caller of a disk on one thread
 abbrev pub only_caller : Caller
 only_caller = record { pass = 1; alone = true }
 
--- the sizes that the first block's object carries
+-- the sizes of a disk with this geometry
 abbrev pub sizes_of : Geometry → Meta
 sizes_of geometry = record { size = geometry.block_size * geometry.blocks; block_size = geometry.block_size }
 
@@ -33,10 +32,11 @@ any_past past = Unit {0}
 abbrev pub HasBegun : ℕ → List Entry → Type 0
 HasBegun mark past = IsSome (flush_place past mark)
 
--- the core added these entries to each history of this kind that it represents, the tape has them, and the clock gave
--- their readings
-pub record RunsWhere (Is : List Entry → Type 0) (core core' : Core) (tape tape' : Option (List Entry))
-    (clock clock' : Option (List Tick)) (entries : List Entry) : Type 0 where
+-- the names stay, the core added these entries to each history of this kind that it represents, the tape has them, and
+-- the clock gave their readings
+pub record RunsWhere (Is : List Entry → Type 0) (names names' : Naming) (core core' : Core)
+    (tape tape' : Option (List Entry)) (clock clock' : Option (List Tick)) (entries : List Entry) : Type 0 where
+  pub same_names : names' ≡ names
   pub base : SameBase core core'
   pub history : (past : List Entry) → Is past → Represents core past → Represents core' (entries ++ past)
   pub of_pass : IsOfPass 1 entries
@@ -47,20 +47,21 @@ pub record RunsWhere (Is : List Entry → Type 0) (core core' : Core) (tape tape
       → ClockTrace (geometry_of core) (settings_of core) only_caller past entries None ticks
 
 -- the same for histories of every kind
-abbrev pub Runs : Core → Core → Option (List Entry) → Option (List Entry) → Option (List Tick) → Option (List Tick)
-    → List Entry → Type 0
-Runs core core' tape tape' clock clock' entries = RunsWhere any_past core core' tape tape' clock clock' entries
+abbrev pub Runs : Naming → Naming → Core → Core → Option (List Entry) → Option (List Entry) → Option (List Tick)
+    → Option (List Tick) → List Entry → Type 0
+Runs names names' core core' tape tape' clock clock' entries =
+    RunsWhere any_past names names' core core' tape tape' clock clock' entries
 
--- these entries were added, and the link's log gained just the calls that they stand for
-pub record DidWhere (Is : List Entry → Type 0) (core core' : Core) (tape tape' : Option (List Entry))
-    (log log' : Option (List Call)) (faults faults' : ℕ) (clock clock' : Option (List Tick)) (entries : List Entry)
-    (calls : List Call) : Type 0 where
-  pub runs : RunsWhere Is core core' tape tape' clock clock' entries
+-- these entries were added, and the link's log gained just the calls that they stand for, under the disk's names
+pub record DidWhere (Is : List Entry → Type 0) (names names' : Naming) (core core' : Core)
+    (tape tape' : Option (List Entry)) (log log' : Option (List Call)) (faults faults' : ℕ)
+    (clock clock' : Option (List Tick)) (entries : List Entry) (calls : List Call) : Type 0 where
+  pub runs : RunsWhere Is names names' core core' tape tape' clock clock' entries
   pub asked : Asked log log' faults faults' calls
-  pub requests : RequestLog block_name (Some (sizes_of (geometry_of core))) entries calls
+  pub requests : RequestLog (name_of names) (Some names.meta) entries calls
 
 -- the same for histories of every kind
-abbrev pub Did : Core → Core → Option (List Entry) → Option (List Entry) → Option (List Call) → Option (List Call)
-    → ℕ → ℕ → Option (List Tick) → Option (List Tick) → List Entry → List Call → Type 0
-Did core core' tape tape' log log' faults faults' clock clock' entries calls =
-    DidWhere any_past core core' tape tape' log log' faults faults' clock clock' entries calls
+abbrev pub Did : Naming → Naming → Core → Core → Option (List Entry) → Option (List Entry) → Option (List Call)
+    → Option (List Call) → ℕ → ℕ → Option (List Tick) → Option (List Tick) → List Entry → List Call → Type 0
+Did names names' core core' tape tape' log log' faults faults' clock clock' entries calls =
+    DidWhere any_past names names' core core' tape tape' log log' faults faults' clock clock' entries calls

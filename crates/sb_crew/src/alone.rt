@@ -1,10 +1,12 @@
 //! The disk on one thread.
 
-ghost use Rattle.std.specs.Prelude.{◌≡◌, ◌∷◌, [], max, length, vec_len, List, Option};
+ghost use Rattle.std.specs.Prelude.{◌≡◌, ◌≤◌, ◌∷◌, [], max, length, vec_len, List, Option};
 ghost use Rattle.sb_base.specs.Lines.{entry_kind_of};
+ghost use Rattle.sb_names.specs.declared.names.TheConstants.{MAX_PREFIX};
 
 use crate::calls::{CallFault, Calls};
 use crate::desk::Desk;
+use crate::names::Names;
 use sb_base::{Geometry, Kind, Line, Part};
 use sb_core::Core;
 use sb_world::{Clock, Link, Tape};
@@ -15,28 +17,34 @@ pub(crate) const PASS: u64 = 1;
 /// A disk for one caller. It makes the requests that its core asks for, and adds each event to its tape.
 pub struct Alone<T> {
     pub(crate) core: Core,
+    pub(crate) names: Names,
     pub(crate) tape: T,
     /// The core's greatest reading.
     pub(crate) reading: u64,
+    ghost short: { length names.prefix ≤ MAX_PREFIX },
 }
 
 impl<T: Tape> Alone<T> {
     ghost use Rattle.sb_world.specs.Told.{Gains};
     ghost use Rattle.sb_core.specs.Represents.{geometry_of, reading_of};
     ghost use Rattle.sb_core.specs.Progress.{IsIdle};
-    ghost use Rattle.sb_crew.specs.Disks.{core_of, tape_of};
+    ghost use Rattle.sb_crew.specs.Disks.{core_of, names_of, tape_of};
     ghost use Rattle.sb_crew.specs.Ready.{IsReady};
 
-    /// A disk over a core with no event behind it.
-    pub fn new(core: Core, tape: T) -> Alone<T>
+    /// A disk over a core with no event behind it, whose objects have these names. Their prefix has at most
+    /// `MAX_PREFIX` bytes.
+    pub fn new(core: Core, names: Names, tape: T) -> Alone<T>
         requires idle { IsIdle core }
         requires fresh { reading_of core ≡ 0 }
+        requires prefix { length names.prefix ≤ MAX_PREFIX }
         ensures core { core_of result ≡ core }
+        ensures names { names_of result ≡ names }
         ensures tape { tape_of result ≡ tape }
         ensures ready { IsReady result.core result.reading (geometry_of core).block_size }
     {
         Alone {
             core,
+            names,
             tape,
             reading: 0,
         }
@@ -48,6 +56,7 @@ impl<T: Tape> Alone<T> {
     {
         let Alone {
             core,
+            names: _,
             tape,
             reading: _,
         } = self;
@@ -59,6 +68,7 @@ impl<T: Tape> Alone<T> {
         ensures told { Gains (T.told self.old.tape) (T.told self.new.tape)
             (record { pass = 1; reading = max now self.old.reading; kind = entry_kind_of kind.entry } ∷ []) }
         ensures core { self.new.core ≡ self.old.core }
+        ensures names { self.new.names ≡ self.old.names }
         ensures reading { self.new.reading ≡ max now self.old.reading }
     {
         self.reading = now.max(self.reading);
@@ -80,9 +90,9 @@ impl<T: Tape, L: Link, C: Clock> Calls<Desk<L, C>> for Alone<T> {
 
     ghost ready = { λ disk desk. IsReady disk.core disk.reading (vec_len desk.room) };
 
-    ghost did = { λ disk desk disk' desk' entries calls. Did disk.core disk'.core (T.told disk.tape)
-        (T.told disk'.tape) (L.log desk.link) (L.log desk'.link) (L.faults desk.link) (L.faults desk'.link)
-        (C.ticks desk.clock) (C.ticks desk'.clock) entries calls };
+    ghost did = { λ disk desk disk' desk' entries calls. Did disk.names disk'.names disk.core disk'.core
+        (T.told disk.tape) (T.told disk'.tape) (L.log desk.link) (L.log desk'.link) (L.faults desk.link)
+        (L.faults desk'.link) (C.ticks desk.clock) (C.ticks desk'.clock) entries calls };
 
     ghost did_nothing = { λ disk desk. did_nothing };
 

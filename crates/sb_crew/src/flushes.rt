@@ -33,8 +33,9 @@ impl<T: Tape> Alone<T> {
     /// Begins a flush.
     fn begin_flush<C: Clock>(&mut self, clock: &mut C) -> Mark
         requires current { self.old.reading ≡ reading_of self.old.core }
-        ensures runs { Runs self.old.core self.new.core (T.told self.old.tape) (T.told self.new.tape)
-            (C.ticks clock.old) (C.ticks clock.new) (flush_begin_entry 1 self.new.reading result ∷ []) }
+        ensures runs { Runs self.old.names self.new.names self.old.core self.new.core (T.told self.old.tape)
+            (T.told self.new.tape) (C.ticks clock.old) (C.ticks clock.new)
+            (flush_begin_entry 1 self.new.reading result ∷ []) }
         ensures idle { IsIdle self.old.core → IsIdle self.new.core }
         ensures current { self.new.reading ≡ reading_of self.new.core }
     {
@@ -47,8 +48,8 @@ impl<T: Tape> Alone<T> {
     /// Asks the core for a step of a flush.
     fn ask_flush<C: Clock>(&mut self, clock: &mut C, room: &mut [u8], mark: Mark) -> FlushStep
         requires ready { IsReady self.old.core self.old.reading (length room.old) }
-        ensures runs { RunsWhere (HasBegun mark) self.old.core self.new.core (T.told self.old.tape)
-            (T.told self.new.tape) (C.ticks clock.old) (C.ticks clock.new)
+        ensures runs { RunsWhere (HasBegun mark) self.old.names self.new.names self.old.core self.new.core
+            (T.told self.old.tape) (T.told self.new.tape) (C.ticks clock.old) (C.ticks clock.new)
             (flush_step_entry 1 self.new.reading mark room.new result ∷ []) }
         ensures answer { AnswersFlush self.old.core mark result }
         ensures copies { CopiesFlush self.old.core room.new result }
@@ -68,8 +69,9 @@ impl<T: Tape> Alone<T> {
         desk: &mut Desk<L, C>,
     ) -> Result<(), CallFault>
         requires ready { IsReady self.old.core self.old.reading (vec_len desk.old.room) }
-        ensures did { FlushDoes (Did self.old.core self.new.core (T.told self.old.tape) (T.told self.new.tape)
-            (L.log desk.old.link) (L.log desk.new.link) (L.faults desk.old.link) (L.faults desk.new.link)
+        ensures did { FlushDoes (Did self.old.names self.new.names self.old.core self.new.core
+            (T.told self.old.tape) (T.told self.new.tape) (L.log desk.old.link) (L.log desk.new.link)
+            (L.faults desk.old.link) (L.faults desk.new.link)
             (C.ticks desk.old.clock) (C.ticks desk.new.clock)) result }
         ensures ready { IsReady self.new.core self.new.reading (vec_len desk.new.room) }
     {

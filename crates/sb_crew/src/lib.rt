@@ -13,3 +13,4 @@ mod writes;
 pub use alone::Alone;
 pub use calls::{CallFault, Calls};
 pub use desk::{Desk, DeskRefused};
+pub use names::Names;

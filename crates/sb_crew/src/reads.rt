@@ -44,8 +44,9 @@ impl<T: Tape> Alone<T> {
         requires ready { IsReady self.old.core self.old.reading (length room.old) }
         requires part { IsPart (geometry_of self.old.core) part }
         requires out { length out.old ≡ part.length }
-        ensures runs { Runs self.old.core self.new.core (T.told self.old.tape) (T.told self.new.tape)
-            (C.ticks clock.old) (C.ticks clock.new) (read_entry 1 self.new.reading part out.new room.new result ∷ []) }
+        ensures runs { Runs self.old.names self.new.names self.old.core self.new.core (T.told self.old.tape)
+            (T.told self.new.tape) (C.ticks clock.old) (C.ticks clock.new)
+            (read_entry 1 self.new.reading part out.new room.new result ∷ []) }
         ensures answer { AnswersRead self.old.core self.new.reading part.block result }
         ensures copies { CopiesRead self.old.core part out.new room.new result }
         ensures leads { ReadLeads self.old.core self.new.core 1 part.block result }
@@ -68,8 +69,9 @@ impl<T: Tape> Alone<T> {
         requires ready { IsReady self.old.core self.old.reading (vec_len desk.old.room) }
         requires part { IsPart (geometry_of self.old.core) part }
         requires out { length out.old ≡ part.length }
-        ensures did { ReadDoes (Did self.old.core self.new.core (T.told self.old.tape) (T.told self.new.tape)
-            (L.log desk.old.link) (L.log desk.new.link) (L.faults desk.old.link) (L.faults desk.new.link)
+        ensures did { ReadDoes (Did self.old.names self.new.names self.old.core self.new.core
+            (T.told self.old.tape) (T.told self.new.tape) (L.log desk.old.link) (L.log desk.new.link)
+            (L.faults desk.old.link) (L.faults desk.new.link)
             (C.ticks desk.old.clock) (C.ticks desk.new.clock)) part out.new result }
         ensures ready { IsReady self.new.core self.new.reading (vec_len desk.new.room) }
     {

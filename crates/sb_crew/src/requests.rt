@@ -7,10 +7,10 @@ ghost use Rattle.sb_crew.specs.Answers.{shown_for, fault_for, EndsAs};
 
 use crate::alone::{Alone, PASS};
 use crate::calls::CallFault;
-use crate::names::block_name;
 use sb_base::{Answer, Kind};
 use sb_core::{GetDone, GetJob, PutJob};
-use sb_world::{Clock, Got, Link, LinkFault, Meta, Tape};
+use sb_names::MAX_NAME;
+use sb_world::{Clock, Got, Link, LinkFault, Tape};
 
 /// What a GET showed, with the bytes in its buffer.
 fn answer_of<'a>(got: Result<Got, LinkFault>, room: &'a [u8]) -> Answer<'a>
@@ -60,9 +60,9 @@ impl<T: Tape> Alone<T> {
     ghost use Rattle.sb_core.specs.Represents.{geometry_of, reading_of};
     ghost use Rattle.sb_core.specs.Progress.{IsCloser};
     ghost use Rattle.sb_core.specs.Steps.{HasGet, HasPut};
-    ghost use Rattle.sb_crew.specs.Names.{block_name};
+    ghost use Rattle.sb_crew.specs.Names.{name_of};
     ghost use Rattle.sb_crew.specs.Ready.{IsReady};
-    ghost use Rattle.sb_crew.specs.Runs.{Runs, sizes_of};
+    ghost use Rattle.sb_crew.specs.Runs.{Runs};
     ghost use Rattle.sb_crew.specs.Turns.{AnswerDoes, FetchDoes, StoreDoes};
 
     /// Makes a GET, and gives its answer to the core.
@@ -76,14 +76,17 @@ impl<T: Tape> Alone<T> {
         requires job { HasGet self.old.core 1 job }
         requires current { self.old.reading ≡ reading_of self.old.core }
         requires room { length room.old ≡ (geometry_of self.old.core).block_size }
-        ensures did { FetchDoes (Runs self.old.core self.new.core (T.told self.old.tape) (T.told self.new.tape)
-            (C.ticks clock.old) (C.ticks clock.new)) (Gains (L.log link.old) (L.log link.new))
-            (CountsFaults (L.faults link.old) (L.faults link.new)) job.block job.verify result }
+        ensures did { FetchDoes (Runs self.old.names self.new.names self.old.core self.new.core
+            (T.told self.old.tape) (T.told self.new.tape) (C.ticks clock.old) (C.ticks clock.new))
+            (Gains (L.log link.old) (L.log link.new)) (CountsFaults (L.faults link.old) (L.faults link.new))
+            self.old.names job.block job.verify result }
         ensures ready { IsReady self.new.core self.new.reading (length room.new) }
         ensures closer { OnOk result (IsCloser self.old.core self.new.core) }
     {
         let verify = job.verify();
-        let got = link.get(&block_name(job.block()), verify, room);
+        let mut placed = [0; MAX_NAME];
+        let name = self.names.place(job.block(), &mut placed);
+        let got = link.get(name, verify, room);
         self.end_fetch(clock, room, job, got)
     }
 
@@ -99,8 +102,9 @@ impl<T: Tape> Alone<T> {
         requires asked { IsAsked got job.verify }
         requires current { self.old.reading ≡ reading_of self.old.core }
         requires room { length room.now ≡ (geometry_of self.old.core).block_size }
-        ensures did { AnswerDoes (Runs self.old.core self.new.core (T.told self.old.tape) (T.told self.new.tape)
-            (C.ticks clock.old) (C.ticks clock.new)) job.block job.verify got room.now result }
+        ensures did { AnswerDoes (Runs self.old.names self.new.names self.old.core self.new.core
+            (T.told self.old.tape) (T.told self.new.tape) (C.ticks clock.old) (C.ticks clock.new))
+            job.block job.verify got room.now result }
         ensures ready { IsReady self.new.core self.new.reading (length room.now) }
         ensures closer { OnOk result (IsCloser self.old.core self.new.core) }
     {
@@ -133,10 +137,10 @@ impl<T: Tape> Alone<T> {
         requires zeros { job.zeros ≡ is_zeros room.now }
         requires current { self.old.reading ≡ reading_of self.old.core }
         requires room { length room.now ≡ (geometry_of self.old.core).block_size }
-        ensures did { StoreDoes (Runs self.old.core self.new.core (T.told self.old.tape) (T.told self.new.tape)
-            (C.ticks clock.old) (C.ticks clock.new)) (Gains (L.log link.old) (L.log link.new))
-            (CountsFaults (L.faults link.old) (L.faults link.new)) (sizes_of (geometry_of self.old.core))
-            job.block room.now result }
+        ensures did { StoreDoes (Runs self.old.names self.new.names self.old.core self.new.core
+            (T.told self.old.tape) (T.told self.new.tape) (C.ticks clock.old) (C.ticks clock.new))
+            (Gains (L.log link.old) (L.log link.new)) (CountsFaults (L.faults link.old) (L.faults link.new))
+            self.old.names job.block room.now result }
         ensures ready { IsReady self.new.core self.new.reading (length room.now) }
         ensures closer { OnOk result (IsCloser self.old.core self.new.core) }
     {
@@ -157,30 +161,16 @@ impl<T: Tape> Alone<T> {
         zeros: bool,
     ) -> Result<(), LinkFault>
         requires { zeros ≡ is_zeros content.now }
-        ensures told { Gains (L.log link.old) (L.log link.new) (put_call (block_name block)
-            (meta_of (Some (sizes_of (geometry_of self.now.core))) block) content.now (fault_of result) ∷ []) }
+        ensures told { Gains (L.log link.old) (L.log link.new) (put_call (name_of self.now.names block)
+            (meta_of (Some self.now.names.meta) block) content.now (fault_of result) ∷ []) }
         ensures cause { CountsFaults (L.faults link.old) (L.faults link.new) (HasFailed result) }
     {
-        let name = block_name(block);
+        let mut placed = [0; MAX_NAME];
+        let name = self.names.place(block, &mut placed);
         if zeros {
-            link.delete(&name)
+            link.delete(name)
         } else {
-            link.put(&name, content, self.meta(block))
-        }
-    }
-
-    /// The sizes that a block's object carries: those of the disk with the first block, none with any other.
-    fn meta(&self, block: u32) -> Option<Meta>
-        ensures { result ≡ meta_of (Some (sizes_of (geometry_of self.now.core))) block }
-    {
-        let geometry = self.core.geometry();
-        if block == 0 {
-            Some(Meta {
-                size: geometry.size(),
-                block_size: geometry.block_size,
-            })
-        } else {
-            None
+            link.put(name, content, self.names.carried(block))
         }
     }
 }

@@ -44,8 +44,8 @@ impl<T: Tape> Alone<T> {
         requires ready { IsReady self.old.core self.old.reading (length room.old) }
         requires part { IsPart (geometry_of self.old.core) part }
         requires bytes { length bytes.now ≡ part.length }
-        ensures runs { Runs self.old.core self.new.core (T.told self.old.tape) (T.told self.new.tape)
-            (C.ticks clock.old) (C.ticks clock.new)
+        ensures runs { Runs self.old.names self.new.names self.old.core self.new.core (T.told self.old.tape)
+            (T.told self.new.tape) (C.ticks clock.old) (C.ticks clock.new)
             (write_entry 1 self.new.reading part bytes.now room.new result ∷ []) }
         ensures answer { AnswersWrite self.old.core self.new.reading part result }
         ensures copies { CopiesWrite self.old.core room.new result }
@@ -69,8 +69,9 @@ impl<T: Tape> Alone<T> {
         requires ready { IsReady self.old.core self.old.reading (vec_len desk.old.room) }
         requires part { IsPart (geometry_of self.old.core) part }
         requires bytes { length bytes.now ≡ part.length }
-        ensures did { WriteDoes (Did self.old.core self.new.core (T.told self.old.tape) (T.told self.new.tape)
-            (L.log desk.old.link) (L.log desk.new.link) (L.faults desk.old.link) (L.faults desk.new.link)
+        ensures did { WriteDoes (Did self.old.names self.new.names self.old.core self.new.core
+            (T.told self.old.tape) (T.told self.new.tape) (L.log desk.old.link) (L.log desk.new.link)
+            (L.faults desk.old.link) (L.faults desk.new.link)
             (C.ticks desk.old.clock) (C.ticks desk.new.clock)) part bytes.now result }
         ensures ready { IsReady self.new.core self.new.reading (vec_len desk.new.room) }
     {

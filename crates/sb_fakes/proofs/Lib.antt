@@ -1,1 +1,4 @@
 pub mod Taking
+pub mod NameLemmas
+pub mod FileLemmas
+pub mod VersionLemmas

@@ -1,2 +1,5 @@
+pub mod Objects
+pub mod Failing
+pub mod Versions
 pub mod Worlds
 pub mod Told

@@ -2,6 +2,7 @@
 use Rattle.std.specs.Prelude.{ℕ, List, Option, Some, drop}
 use Rattle.sb_base.specs.declared.entry.Entry.{Entry}
 use Rattle.sb_world.specs.declared.clock.Tick.{Tick}
+use Rattle.sb_world.specs.declared.world.Ask.{Ask}
 use Rattle.sb_fakes.specs.declared.clock.HandClock.{HandClock}
 use Rattle.sb_fakes.specs.declared.conn.MemoryConn.{MemoryConn}
 use Rattle.sb_fakes.specs.declared.tape.RecordTape.{RecordTape}
@@ -18,11 +19,15 @@ bytes_of conn = Some (drop conn.at conn.bytes.items)
 
 -- how often it has failed
 abbrev pub faults_of : MemoryConn → ℕ
-faults_of conn = conn.faults
+faults_of conn = conn.faults.count
 
 -- the entries on a tape
 abbrev pub entries_of : RecordTape → Option (List Entry)
 entries_of tape = tape.entries
+
+-- what a world was asked for
+abbrev pub asks_of : {L : Type 0} → MemoryWorld L → Option (List Ask)
+asks_of world = world.asks
 
 -- the lines that a world said, and how often it has failed
 abbrev pub said_of : {L : Type 0} → MemoryWorld L → Option (List (List ℕ))

@@ -2,6 +2,7 @@
 
 ghost use Rattle.std.specs.Prelude.{◌≡◌, ◌≢◌, ◌≤◌, ◌<◌, Some, [], drop, length, vec_len};
 
+use crate::faults::Faults;
 use sb_base::Text;
 use sb_world::{ReadFault, Sink, Source, WriteFault};
 use std::alloc::Global;
@@ -12,9 +13,7 @@ pub struct MemoryConn {
     bytes: Vec<u8>,
     at: usize,
     piece: u32,
-    fails: Vec<u64>,
-    calls: u64,
-    faults: u64,
+    faults: Faults,
     ghost within: { at ≤ vec_len bytes },
     ghost some: { 0 < piece },
 }
@@ -24,30 +23,26 @@ impl MemoryConn {
     pub fn source(body: Text, piece: u32, fails: Vec<u64>) -> MemoryConn
         requires { piece ≢ 0 }
         ensures bytes { drop result.at result.bytes.items ≡ body }
-        ensures faults { result.faults ≡ 0 }
+        ensures faults { result.faults.count ≡ 0 }
     {
         MemoryConn {
             bytes: body.into_vec(),
             at: 0,
             piece,
-            fails,
-            calls: 0,
-            faults: 0,
+            faults: Faults::new(fails),
         }
     }
 
     /// A sink that holds nothing yet.
     pub fn sink(alloc: Global, fails: Vec<u64>) -> MemoryConn
         ensures bytes { drop result.at result.bytes.items ≡ [] }
-        ensures faults { result.faults ≡ 0 }
+        ensures faults { result.faults.count ≡ 0 }
     {
         MemoryConn {
             bytes: Vec::new(alloc),
             at: 0,
             piece: 1,
-            fails,
-            calls: 0,
-            faults: 0,
+            faults: Faults::new(fails),
         }
     }
 
@@ -57,25 +52,15 @@ impl MemoryConn {
     {
         &self.bytes[self.at..]
     }
-
-    /// Counts a call, and a fault where it is one that fails.
-    fn fails_now(&mut self) -> bool
-        ensures bytes { (self.new.bytes ≡ self.old.bytes) × (self.new.at ≡ self.old.at) }
-        ensures faults { self.new.faults ≡ self.old.faults }
-    {
-        self.calls = self.calls.saturating_add(1);
-        self.fails.contains(&self.calls)
-    }
 }
 
 impl Source for MemoryConn {
     ghost left = { λ conn. Some (drop conn.at conn.bytes.items) };
 
-    ghost faults = { λ conn. conn.faults };
+    ghost faults = { λ conn. conn.faults.count };
 
     fn read(&mut self, out: &mut [u8]) -> Result<usize, ReadFault> {
-        if self.fails_now() {
-            self.faults = self.faults.saturating_add(1);
+        if self.faults.next_call_fails() {
             return Err(ReadFault::Failed);
         }
         let left = self.bytes();
@@ -89,11 +74,14 @@ impl Source for MemoryConn {
 impl Sink for MemoryConn {
     ghost held = { λ conn. Some (drop conn.at conn.bytes.items) };
 
-    ghost faults = { λ conn. conn.faults };
+    ghost faults = { λ conn. conn.faults.count };
 
     fn write(&mut self, bytes: &[u8]) -> Result<(), WriteFault> {
-        if self.fails_now() || self.bytes.extend_from_slice(bytes).is_err() {
-            self.faults = self.faults.saturating_add(1);
+        if self.faults.next_call_fails() {
+            return Err(WriteFault::Failed);
+        }
+        if self.bytes.extend_from_slice(bytes).is_err() {
+            self.faults.add();
             return Err(WriteFault::Failed);
         }
         Ok(())

@@ -1,20 +1,29 @@
-//! Worlds in memory, for tests: a store, a clock, a tape and connections that tell all that they were asked.
+//! Worlds in memory, for tests: stores, a folder, a clock, a tape and connections that tell all that they were asked.
 //!
 //! A fake whose call has to grow a list, and has no fault to answer, tells nothing from a refused growth on.
 #![tactic(auto)]
 
 mod clock;
 mod conn;
-mod failing;
+mod content;
+mod faults;
+mod folder;
+mod history;
 mod kept;
 mod log;
+mod object;
 mod store;
 mod tape;
+#[cfg(test)]
+mod tests;
+mod timed;
 mod world;
 
 pub use clock::HandClock;
 pub use conn::MemoryConn;
-pub use failing::Failing;
+pub use folder::MemoryFolder;
+pub use object::Object;
 pub use store::PlainStore;
 pub use tape::RecordTape;
+pub use timed::{Show, TimedStore};
 pub use world::MemoryWorld;

@@ -2,30 +2,24 @@
 
 ghost use Rattle.std.specs.Prelude.{◌≡◌, ◌≢◌, Some, []};
 
+use crate::content::{Content, PAGE_NAMES, fetch};
 use crate::log::Log;
 use sb_base::{Digest, Text};
 use sb_world::{Got, HeadText, Link, LinkFault, Meta, Page};
 use std::alloc::{AllocError, Global};
 
-/// How many names a listing gives at most.
-const PAGE_NAMES: usize = 1000;
-
-/// The status of an object of another length than was asked for.
-const OTHER_LENGTH: u16 = 600;
-
-/// An object, with the sizes that it carries.
+/// An object.
 #[derive(Drop)]
-struct Object {
+struct Stored {
     name: Text,
-    body: Text,
-    meta: Option<Meta>,
+    content: Content,
 }
 
 /// A store that keeps the newest of each object, in the order of their names, and the log of its calls.
 #[derive(Drop)]
 pub struct PlainStore {
     alloc: Global,
-    objects: Vec<Object>,
+    objects: Vec<Stored>,
     log: Log,
     faults: u64,
 }
@@ -46,36 +40,20 @@ impl PlainStore {
     }
 
     /// The object of a name.
-    fn find(&self, name: &[u8]) -> Option<&Object> {
+    fn find(&self, name: &[u8]) -> Option<&Content> {
         self.objects
             .iter()
             .find(|object| object.name.bytes() == name)
-    }
-
-    /// Copies an object into a buffer of its length.
-    fn fetch(&self, name: &[u8], out: &mut [u8]) -> Result<Got, LinkFault>
-        ensures { result ≢ Ok (Got.Same) }
-    {
-        match self.find(name) {
-            None => Ok(Got::Absent),
-            Some(object) if object.body.bytes().len() == out.len() => {
-                out.copy_from_slice(object.body.bytes());
-                Ok(Got::Bytes)
-            }
-            Some(_) => Err(LinkFault::Failed {
-                status: OTHER_LENGTH,
-            }),
-        }
+            .map(|object| &object.content)
     }
 
     /// Puts an object where its name belongs, in the place of the one that has the name.
     fn store(&mut self, name: &[u8], body: &[u8], meta: Option<Meta>) -> Result<(), AllocError>
         ensures frame { (self.new.log ≡ self.old.log) × (self.new.faults ≡ self.old.faults) }
     {
-        let object = Object {
+        let object = Stored {
             name: Text::of(self.alloc, name)?,
-            body: Text::of(self.alloc, body)?,
-            meta,
+            content: Content::of(self.alloc, body, meta)?,
         };
         let place = self
             .objects
@@ -113,25 +91,10 @@ impl PlainStore {
     /// The texts of the sizes that an object carries.
     fn texts(&self, name: &[u8]) -> Result<Option<HeadText>, AllocError> {
         match self.find(name) {
+            Some(content) => Ok(Some(content.texts(self.alloc)?)),
             None => Ok(None),
-            Some(object) => match object.meta {
-                None => Ok(Some(HeadText {
-                    size: None,
-                    block_size: None,
-                })),
-                Some(Meta { size, block_size }) => Ok(Some(HeadText {
-                    size: Some(decimal(self.alloc, size)?),
-                    block_size: Some(decimal(self.alloc, u64::from(block_size))?),
-                })),
-            },
         }
     }
-}
-
-/// A number as decimal text.
-fn decimal(alloc: Global, number: u64) -> Result<Text, AllocError> {
-    let text = format!(in alloc; "{number}")?;
-    Text::of(alloc, text.as_bytes())
 }
 
 impl Link for PlainStore {
@@ -145,7 +108,7 @@ impl Link for PlainStore {
         verify: Option<Digest>,
         out: &mut [u8],
     ) -> Result<Got, LinkFault> {
-        let answer = self.fetch(name, out);
+        let answer = fetch(self.find(name).map(|content| content.body.bytes()), out);
         if answer.is_err() {
             self.faults = self.faults.saturating_add(1);
         }

@@ -1,19 +1,25 @@
 //! A world in memory.
 
-ghost use Rattle.std.specs.Prelude.{◌≡◌, ◌≤◌, ◌<◌, Some, [], true, IfOk, take, vec_len};
+ghost use Rattle.std.specs.Prelude.{◌≡◌, ◌≤◌, ◌<◌, Some, [], ◌∷◌, true, IfOk, take, vec_len};
+ghost use Rattle.std.specs.Option.{option_copied};
+ghost use Rattle.sb_world.specs.Benches.{link_count};
+ghost use Rattle.sb_world.specs.Told.{Gains};
+ghost use Rattle.sb_world.specs.declared.world.Ask.TheVariants as ask;
 ghost use Rattle.sb_fakes.specs.Worlds.{next_of, told_list};
 
 use crate::clock::HandClock;
 use crate::conn::MemoryConn;
-use sb_base::Text;
-use sb_world::{Bench, Link, MakeFault, World};
+use crate::kept::Kept;
+use sb_base::{StorePlan, Text};
+use sb_world::{Ask, Bench, Link, MakeFault, World};
 use std::alloc::{AllocError, Global};
 
 /// A bench of fakes over a link.
 type MemoryBench<L> = Bench<L, HandClock, MemoryConn, MemoryConn>;
 
-/// A world that hands out what it was given, each from the front, and keeps the bench that was shut last and the lines
-/// that were said. A bench takes its `output` before its `errors`. A missing part is `MakeFault::Store`.
+/// A world that hands out what it was given, each from the front, and keeps what it was asked for, the bench that was
+/// shut last and the lines that were said. A bench takes its `output` before its `errors`, and no link where it is over
+/// no store. A missing part is `MakeFault::Store`.
 #[derive(Drop)]
 pub struct MemoryWorld<L> {
     alloc: Global,
@@ -22,6 +28,7 @@ pub struct MemoryWorld<L> {
     inputs: Vec<MemoryConn>,
     sinks: Vec<MemoryConn>,
     faults: u64,
+    asks: Kept<Ask>,
     /// The lines said, the oldest first.
     pub said: Vec<Text>,
     said_whole: bool,
@@ -41,6 +48,7 @@ impl<L: Link + Drop> MemoryWorld<L> {
         ensures parts { (result.links ≡ links) × (result.clocks ≡ clocks) × (result.inputs ≡ inputs) ×
             (result.sinks ≡ sinks) }
         ensures faults { result.faults ≡ 0 }
+        ensures asks { result.asks ≡ Some [] }
         ensures said { told_list result.said.items result.said_whole ≡ Some [] }
     {
         MemoryWorld {
@@ -50,6 +58,7 @@ impl<L: Link + Drop> MemoryWorld<L> {
             inputs,
             sinks,
             faults: 0,
+            asks: Kept::new(alloc),
             said: Vec::new(alloc),
             said_whole: true,
             last: None,
@@ -65,6 +74,37 @@ impl<L: Link + Drop> MemoryWorld<L> {
             && !self.clocks.is_empty()
             && !self.inputs.is_empty()
             && self.sinks.len() >= 2
+    }
+}
+
+/// How many links a bench has.
+fn links_of(store: Option<&StorePlan>, links: u32) -> usize
+    ensures { result ≡ link_count (option_copied store.entry) links }
+{
+    match store {
+        Some(_) => links as usize,
+        None => 0,
+    }
+}
+
+/// The ask for a bench.
+fn bench_ask(alloc: Global, store: Option<&StorePlan>, links: u32) -> Result<Ask, AllocError>
+    ensures { IfOk result (λ made. made ≡ ask.Bench (option_copied store.entry) links) }
+{
+    let store = match store {
+        Some(plan) => Some(plan.copy(alloc)?),
+        None => None,
+    };
+    Ok(Ask::Bench { store, links })
+}
+
+/// Keeps the ask for a bench.
+fn keep_ask(alloc: Global, asks: &mut Kept<Ask>, store: Option<&StorePlan>, links: u32)
+    ensures { Gains asks.old asks.new (ask.Bench (option_copied store.entry) links ∷ []) }
+{
+    match bench_ask(alloc, store, links) {
+        Ok(ask) => asks.add(ask),
+        Err(_) => asks.forget(),
     }
 }
 
@@ -101,14 +141,22 @@ impl<L: Link + Drop> World for MemoryWorld<L> {
 
     ghost last = { λ world. world.last };
 
+    ghost asks = { λ world. world.asks };
+
     ghost said = { λ world. told_list world.said.items world.said_whole };
 
-    fn bench(&mut self, links: u32) -> Result<MemoryBench<L>, MakeFault> {
-        if !self.has_parts(links as usize) {
+    fn bench(
+        &mut self,
+        store: Option<&StorePlan>,
+        links: u32,
+    ) -> Result<MemoryBench<L>, MakeFault> {
+        keep_ask(self.alloc, &mut self.asks, store, links);
+        let count = links_of(store, links);
+        if !self.has_parts(count) {
             self.faults = self.faults.saturating_add(1);
             return Err(MakeFault::Store);
         }
-        match take_front(self.alloc, &mut self.links, links as usize) {
+        match take_front(self.alloc, &mut self.links, count) {
             Ok(links) => Ok(Bench {
                 links,
                 clock: self.clocks.remove(0),
@@ -123,8 +171,8 @@ impl<L: Link + Drop> World for MemoryWorld<L> {
     fn shut(&mut self, bench: MemoryBench<L>)
         ensures last { self.new.last ≡ Some bench }
         ensures faults { self.old.faults ≤ self.new.faults }
-        ensures frame { told_list self.new.said.items self.new.said_whole ≡ told_list self.old.said.items
-            self.old.said_whole }
+        ensures frame { (self.new.asks ≡ self.old.asks) × (told_list self.new.said.items self.new.said_whole
+            ≡ told_list self.old.said.items self.old.said_whole) }
     {
         self.last = Some(bench);
     }

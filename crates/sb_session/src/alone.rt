@@ -4,7 +4,7 @@ ghost use Rattle.std.specs.Prelude.{◌≡◌, vec_len};
 ghost use Rattle.sb_base.specs.Shapes.{IsSound};
 ghost use Rattle.sb_world.specs.Told.{CountsFaults};
 ghost use Rattle.sb_core.specs.Represents.{geometry_of};
-ghost use Rattle.sb_crew.specs.Disks.{core_of, tape_of, IsReadyWith};
+ghost use Rattle.sb_crew.specs.Disks.{core_of, names_of, tape_of, IsReadyWith};
 ghost use Rattle.sb_crew.specs.Runs.{Did};
 ghost use Rattle.sb_session.specs.Sessions.{SessionTold};
 
@@ -29,9 +29,10 @@ pub fn serve_alone<T: Tape, L: Link, C: Clock, R: Source, S: Sink>(
     requires sound { IsSound (geometry_of (core_of disk.old)) }
     ensures ready { IsReadyWith disk.new desk.new }
     ensures told { SessionTold (geometry_of (core_of disk.old)) TRANSMISSION_FLAGS (R.left source.old)
-        (R.left source.new) (S.held sink.old) (S.held sink.new) (Did (core_of disk.old) (core_of disk.new)
-        (T.told (tape_of disk.old)) (T.told (tape_of disk.new)) (L.log desk.old.link) (L.log desk.new.link)
-        (L.faults desk.old.link) (L.faults desk.new.link) (C.ticks desk.old.clock) (C.ticks desk.new.clock)) result }
+        (R.left source.new) (S.held sink.old) (S.held sink.new) (Did (names_of disk.old) (names_of disk.new)
+        (core_of disk.old) (core_of disk.new) (T.told (tape_of disk.old)) (T.told (tape_of disk.new))
+        (L.log desk.old.link) (L.log desk.new.link) (L.faults desk.old.link) (L.faults desk.new.link)
+        (C.ticks desk.old.clock) (C.ticks desk.new.clock)) result }
     ensures read_cause { CountsFaults (R.faults source.old) (R.faults source.new) (result ≡ SessionEnd.ReadFault) }
     ensures write_cause { CountsFaults (S.faults sink.old) (S.faults sink.new) (result ≡ SessionEnd.WriteFault) }
 {

@@ -11,7 +11,8 @@ IsAtEnd now = (rest : List ℕ) → now ≡ Some rest → rest ≡ []
 
 -- a read takes the bytes that it gives, none only at the end or into an empty buffer, and a failed read takes none
 abbrev pub ReadTakes : {E : Type 0} → Option (List ℕ) → Option (List ℕ) → Result ℕ E → List ℕ → Type 0
-ReadTakes before now (Ok n) out = (n ≤ length out) × Takes before now (take n out) × (n ≡ 0 → 0 < length out → IsAtEnd now)
+ReadTakes before now (Ok n) out = (n ≤ length out) × Takes before now (take n out)
+    × (n ≡ 0 → 0 < length out → IsAtEnd now)
 ReadTakes before now (Err fault) out = Takes before now []
 
 -- what is held now, where it is told, is what was held before and these bytes

@@ -1,5 +1,6 @@
 -- What the connections of a wire have sent and received.
-use Rattle.std.specs.Prelude.{ℕ, zero, ◌≡◌, ◌≤◌, Bool, true, false, List, [], ◌∷◌, ◌++◌, length, take, Option, Some, Result, Ok, Err, if◌then◌else◌}
+use Rattle.std.specs.Prelude.{ℕ, zero, ◌≡◌, ◌≤◌, Bool, true, false, List, [], ◌∷◌, ◌++◌, length, take, Option, Some}
+use Rattle.std.specs.Prelude.{Result, Ok, Err, if◌then◌else◌}
 use Rattle.sb_world.specs.Told.{Gains}
 use Rattle.sb_world.specs.declared.wire.Connection.{Connection}
 

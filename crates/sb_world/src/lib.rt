@@ -19,4 +19,4 @@ pub use link::{Call, GetReply, Got, HeadReply, HeadText, Link, LinkFault, ListRe
 pub use stream::{ReadFault, Sink, Source, WriteFault};
 pub use tape::{NoTape, Tape};
 pub use wire::{Connection, Wire, WireFault};
-pub use world::{Bench, MakeFault, World};
+pub use world::{Ask, Bench, MakeFault, World};

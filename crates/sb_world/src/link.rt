@@ -118,8 +118,8 @@ pub trait Link {
     /// How often it has failed.
     ghost faults: { Self → ℕ };
 
-    /// Asks for an object of the length of `out`; one of another length fails with status 600. `Same` comes only where a
-    /// digest was given, and leaves `out` as it was. After `Absent` or a fault `out` is unspecified.
+    /// Asks for an object of the length of `out`; one of another length fails with status 600. `Same` comes only where
+    /// a digest was given, and leaves `out` as it was. After `Absent` or a fault `out` is unspecified.
     fn get(&mut self, name: &[u8], verify: Option<Digest>, out: &mut [u8]) -> Result<Got, LinkFault>
         ensures asked { IsAsked result verify }
         ensures unchanged { result ≡ Ok (Got.Same) → out.new ≡ out.old }
@@ -141,9 +141,10 @@ pub trait Link {
         ensures told { Gains (log self.old) (log self.new) (call.Head name.now (head_reply result) ∷ []) }
         ensures cause { CountsFaults (faults self.old) (faults self.new) (HasFailed result) };
 
-    /// Asks for at most 1,000 names that begin with the prefix and stand after the marker in byte order. The page is what
-    /// came; `true` means that more follow. After a fault the page is unspecified.
+    /// Asks for at most 1,000 names that begin with the prefix and stand after the marker in byte order. The page is
+    /// what came; `true` means that more follow. After a fault the page is unspecified.
     fn list(&mut self, prefix: &[u8], marker: &[u8], page: &mut Page) -> Result<bool, LinkFault>
-        ensures told { Gains (log self.old) (log self.new) (call.List prefix.now marker.now (list_reply result page.new) ∷ []) }
+        ensures told { Gains (log self.old) (log self.new)
+            (call.List prefix.now marker.now (list_reply result page.new) ∷ []) }
         ensures cause { CountsFaults (faults self.old) (faults self.new) (HasFailed result) };
 }

@@ -39,8 +39,8 @@ pub trait Wire {
         ensures told { Sends (connections self.old) (connections self.new) result bytes.now }
         ensures cause { CountsFaults (faults self.old) (faults self.new) (IsErr result) };
 
-    /// Receives some bytes into the front of `out` and answers how many: none only at the end, or into an empty buffer. A
-    /// receive that fails gives none.
+    /// Receives some bytes into the front of `out` and answers how many: none only at the end, or into an empty buffer.
+    /// A receive that fails gives none.
     fn receive(&mut self, out: &mut [u8]) -> Result<usize, WireFault>
         ensures length { length out.new ≡ length out.old }
         ensures told { Receives (connections self.old) (connections self.new) result out.new }

@@ -5,15 +5,16 @@ use Rattle.s3backer.proofs.top.run.Goals as goal
 pub returns-in-Ok-bench : goal.returns-in-Ok-bench
 returns-in-Ok-bench g c =
     inr (inr (inr (record {
-      geometry = c.in-Ok.geometry;
+      plan = c.in-Ok.plan;
       taken = c.in-Ok.ensures.plan;
+      asked = rw (c.shut.ensures.frame.1, ← c.plan-2.view_is) c.bench.ensures.asks;
       runs = record {
         before = c.in-Ok-bench.bench;
-        after = c.serve_bench-status.result.2;
+        after = c.run_single-status.result.2;
         next_is = c.in-Ok-bench.ensures.next;
         last_is = c.shut.ensures.last
-            ∙ ap (λ (t : Bool). shut_bench t c.serve_bench-status.result.2) c.bench.ensures.frame.0;
-        bench = c.serve_bench-status.ensures;
+            ∙ ap (λ (t : Bool). shut_bench t c.run_single-status.result.2) c.bench.ensures.frame.0;
+        bench = c.run_single-status.ensures;
       };
-      quiet = c.shut.ensures.frame.1 ∙ c.bench.ensures.frame.2;
+      quiet = c.shut.ensures.frame.2 ∙ c.bench.ensures.frame.2;
     })))

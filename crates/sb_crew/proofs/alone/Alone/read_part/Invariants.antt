@@ -11,7 +11,8 @@ use Rattle.sb_crew.proofs.alone.Alone.read_part.Given as goal
 abbrev pub invariant-turns : goal.invariant-turns
 invariant-turns g l =
     record {
-      so_far : SoFar any_past [] l.fn.self.core l.self.core (g.T.Tape.told l.fn.self.tape) (g.T.Tape.told l.self.tape)
+      so_far : SoFar any_past [] l.fn.self.names l.self.names l.fn.self.core l.self.core
+          (g.T.Tape.told l.fn.self.tape) (g.T.Tape.told l.self.tape)
           (g.L.Link.log l.fn.desk.link) (g.L.Link.log l.link)
           (g.L.Link.faults l.fn.desk.link) (g.L.Link.faults l.link) (g.C.Clock.ticks l.fn.desk.clock)
           (g.C.Clock.ticks l.clock)

@@ -8,8 +8,8 @@ use Rattle.sb_fakes.proofs.conn.MemoryConnSource.read.Goals as goal
 
 pub returns-clause-told : goal.returns-clause-told
 returns-clause-told c =
-    let bytes = c.fails_now.new.self.bytes.items in
-    let at = c.fails_now.new.self.at in
+    let bytes = c.args.self.now.bytes.items in
+    let at = c.args.self.now.at in
     let count = c.min-count.result in
     let behind = drop count c.args.out.now in
     let copied = c.copy_from_slice.new.self in
@@ -25,7 +25,7 @@ returns-clause-told c =
         arith,
         length-drop at bytes,
         ap length c.bytes-left.ensures,
-        c.fails_now.new.self.some,
+        c.args.self.now.some,
         length-append
             copied behind,
         length-drop count c.args.out.now,

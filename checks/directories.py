@@ -1,0 +1,203 @@
+#!/usr/bin/env python3
+"""Serves disks from directories with the built program, over several runs. Usage: directories.py PROGRAM
+
+What one run flushed has to be there in the next, also where the first was killed. The client here is independent of the
+program; a library for NBD is used beside it where it is installed.
+"""
+import hashlib, os, random, shutil, subprocess, sys, tempfile
+
+program = os.path.abspath(sys.argv[1])
+OPEN = bytes.fromhex("00000003 49484156454f5054 00000001 00000000")
+READ, WRITE, DISC, FLUSH = 0, 1, 2, 3
+BLOCK = 4096
+failed = 0
+
+
+def expect(name, found, wanted):
+    global failed
+    if found != wanted:
+        failed += 1
+        print(f"{name}: found {str(found)[:300]}, wanted {str(wanted)[:300]}")
+
+
+class Client:
+    """A connection to a run of the program."""
+
+    def __init__(self, size, directory, *options):
+        self.process = subprocess.Popen([program, "--stdio", "--test", *options, f"--size={size}", directory],
+                                        stdin=subprocess.PIPE, stdout=subprocess.PIPE, stderr=subprocess.PIPE)
+        self.cookie = 0
+        self.send(OPEN)
+        greeting = self.receive(28)
+        expect("the greeting", (greeting[:18], greeting[26:]), (b"NBDMAGICIHAVEOPT\0\3", b"\0\5"))
+        self.size = int.from_bytes(greeting[18:26], "big")
+
+    def send(self, given):
+        self.process.stdin.write(given)
+        self.process.stdin.flush()
+
+    def receive(self, count):
+        return self.process.stdout.read(count)
+
+    def ask(self, kind, offset=0, length=0, body=b""):
+        """One request: the error of its reply, and what it read."""
+        self.cookie += 1
+        self.send(bytes.fromhex("25609513 0000") + kind.to_bytes(2, "big") + self.cookie.to_bytes(8, "big")
+                  + offset.to_bytes(8, "big") + length.to_bytes(4, "big") + body)
+        head = self.receive(16)
+        expect("a reply", (head[:4], head[8:]), (bytes.fromhex("67446698"), self.cookie.to_bytes(8, "big")))
+        error = int.from_bytes(head[4:8], "big")
+        return error, self.receive(length) if kind == READ and error == 0 else b""
+
+    def read(self, offset, length):
+        return self.ask(READ, offset, length)
+
+    def write(self, offset, body):
+        return self.ask(WRITE, offset, len(body), body)[0]
+
+    def flush(self):
+        return self.ask(FLUSH)[0]
+
+    def end(self):
+        """Disconnects: the status, and what stands on standard error."""
+        self.send(bytes.fromhex("25609513 0000 0002") + bytes(20))
+        _, errors = self.process.communicate(timeout=60)
+        return self.process.returncode, errors
+
+    def kill(self):
+        self.process.kill()
+        self.process.communicate(timeout=60)
+
+
+def run(words, given=OPEN):
+    done = subprocess.run([program, *words], input=given, capture_output=True, timeout=60)
+    return done.returncode, done.stdout, done.stderr
+
+
+def name_of(block, prefix, hashed):
+    digits = f"{block:08x}"
+    return prefix + (hashlib.md5(digits.encode()).hexdigest()[:8] + "-" if hashed else "") + digits
+
+
+def names_of(disk, prefix, hashed):
+    """The files that a directory has to have: those of the blocks that aren't zeros."""
+    return {name_of(at // BLOCK, prefix, hashed): disk[at:at + BLOCK]
+            for at in range(0, len(disk), BLOCK) if disk[at:at + BLOCK] != bytes(BLOCK)}
+
+
+def files_in(directory):
+    return {name: open(os.path.join(directory, name), "rb").read() for name in os.listdir(directory)}
+
+
+def several_runs(top, prefix, hashed):
+    """A disk of 4 MiB over five runs, one of which is killed."""
+    directory = os.path.join(top, "above", "disk")
+    options = ([f"--prefix={prefix}"] if prefix else []) + (["--blockHashPrefix"] if hashed else [])
+    choice, disk = random.Random(7), bytearray(1 << 22)
+    kind = f"prefix {prefix!r}, hashed {hashed}"
+
+    def fill(client, count):
+        for _ in range(count):
+            length = choice.choice([1, 512, BLOCK, 2 * BLOCK, 10000, 131072])
+            offset = choice.randrange(len(disk) - length)
+            body = choice.choice([choice.randbytes(length), bytes(length)])
+            expect("a write", client.write(offset, body), 0)
+            disk[offset:offset + length] = body
+
+    client = Client("4m", directory, *options)
+    expect("the size", client.size, len(disk))
+    fill(client, 60)
+    expect("a flush", client.flush(), 0)
+    expect(f"the files after a flush, {kind}", files_in(directory), names_of(disk, prefix, hashed))
+    expect("the end", client.end(), (0, b""))
+
+    client = Client("4m", directory, *options)
+    expect(f"the next run, {kind}", client.read(0, len(disk)) == (0, bytes(disk)), True)
+    fill(client, 60)
+    expect("the end without a flush", client.end(), (0, b""))
+
+    client = Client("4m", directory, *options)
+    expect(f"what the last flush put, {kind}", client.read(0, len(disk)) == (0, bytes(disk)), True)
+    fill(client, 60)
+    expect("a flush", client.flush(), 0)
+    flushed, later = bytes(disk), bytes([1]) * BLOCK
+    expect("a write that isn't flushed", client.write(0, later), 0)
+    client.kill()
+
+    client = Client("4m", directory, *options)
+    error, found = client.read(0, len(disk))
+    expect(f"what was flushed before a kill, {kind}", (error, found[BLOCK:] == flushed[BLOCK:]), (0, True))
+    expect("the block that wasn't", found[:BLOCK] in (flushed[:BLOCK], later), True)
+    expect("zeros over all", [client.write(at, bytes(1 << 20)) for at in range(0, len(disk), 1 << 20)], [0] * 4)
+    expect("the end", client.end(), (0, b""))
+    expect("a disk of zeros has no file", {name for name in os.listdir(directory) if not name.endswith(".tmp")}, set())
+
+
+def faults(top):
+    """Directories that can't be had, and ones that fail later."""
+    unreachable = (3, b"", b"s3backer: cannot reach the store\n")
+    path = os.path.join(top, "file")
+    open(path, "wb").close()
+    expect("a path that is a file", run(["--stdio", "--test", "--size=64k", path]), unreachable)
+    expect("a path below a file", run(["--stdio", "--test", "--size=64k", os.path.join(path, "below")]), unreachable)
+
+    directory = os.path.join(top, "odd")
+    os.mkdir(directory)
+    open(os.path.join(os.fsencode(directory), b"\xff\xfe"), "wb").close()
+    os.mkdir(os.path.join(directory, "00000001"))
+    with open(os.path.join(directory, "00000002"), "wb") as short:
+        short.write(b"short")
+    with open(os.path.join(directory, "00000003.tmp"), "wb") as left:
+        left.write(bytes([9]) * BLOCK)
+    client = Client("64k", directory)
+    expect("a block beside odd names", client.read(0, BLOCK), (0, bytes(BLOCK)))
+    expect("a block that is a directory", client.read(BLOCK, 1), (5, b""))
+    expect("a block of another length", client.read(2 * BLOCK, 1), (5, b""))
+    expect("a block whose write was cut off", client.read(3 * BLOCK, BLOCK), (0, bytes(BLOCK)))
+    expect("the end", client.end(), (0, b""))
+
+    directory = os.path.join(top, "gone")
+    client = Client("64k", directory)
+    expect("a write", client.write(0, b"A" * BLOCK), 0)
+    shutil.rmtree(directory)
+    expect("a flush of a directory that is gone", client.flush(), 5)
+    expect("its end", client.end(), (3, b"s3backer: store fault 605\n"))
+
+
+def by_a_library(top):
+    """The same disk by libnbd, where a Python has it."""
+    for python in ("python3", "/usr/bin/python3"):
+        if subprocess.run([python, "-c", "import nbd"], capture_output=True).returncode == 0:
+            directory = os.path.join(top, "library")
+            script = """
+import nbd, sys
+for turn in range(2):
+    disk = nbd.NBD()
+    disk.set_handshake_flags(0)
+    disk.connect_command(sys.argv[1:])
+    assert disk.get_size() == 1 << 22 and not disk.is_read_only() and disk.can_flush()
+    body = bytes(range(256)) * 512
+    if turn == 0:
+        disk.pwrite(body, 4000)
+        disk.flush()
+    assert disk.pread(len(body), 4000) == body and disk.pread(4000, 0) == bytes(4000)
+    disk.shutdown()
+"""
+            done = subprocess.run([python, "-c", script, program, "--stdio", "--test", "--size=4m", directory],
+                                  capture_output=True, timeout=60)
+            expect("libnbd", (done.returncode, done.stderr), (0, b""))
+            return
+    print("skipped: libnbd")
+
+
+top = tempfile.mkdtemp()
+try:
+    several_runs(os.path.join(top, "plain"), "", False)
+    several_runs(os.path.join(top, "prefixed"), "p+", False)
+    several_runs(os.path.join(top, "hashed"), "disk.", True)
+    faults(top)
+    by_a_library(top)
+finally:
+    shutil.rmtree(top)
+print(f"directories: {'ok' if failed == 0 else f'{failed} failed'}")
+sys.exit(1 if failed else 0)

@@ -1,0 +1,138 @@
+-- Words that the readers refuse are of no given values.
+use Rattle.std.proofs.Common.{ℕ, ◌≡◌, List, [], ◌∷◌, ◌++◌, Option, Some, None, Bool, true, false, Result, Ok, Err, codes}
+use Rattle.std.proofs.Common.{sym, ◌∙◌, ap, arith, slice_index_or, if◌then◌else◌, nat_eq, length}
+use Rattle.std.specs.List.{list_any}
+use Rattle.s3backer.specs.Words.{Given, option_words, flag_words, is_option, AreWordsOf, IsPlan, plan_of}
+use Rattle.s3backer.specs.Words.{planned, shaped, sized, checked_names, prefix_or_empty, is_bad_prefix}
+use Rattle.s3backer.specs.Read.{TakesOption, TakesFlag, AreLast, ReadsWords, Answers}
+use Rattle.s3backer.specs.Plans.{PlanParts}
+use Rattle.s3backer.specs.declared.words.Usage.{Usage}
+use Rattle.s3backer.specs.declared.words.Usage.TheVariants as usage
+use Rattle.s3backer.specs.declared.words.PlanFault.{PlanFault}
+use Rattle.s3backer.specs.declared.words.PlanFault.TheVariants as fault
+use Rattle.s3backer.specs.declared.words.TheConstants.{BLOCK_SIZE}
+use Rattle.sb_base.specs.declared.geometry.Geometry.{Geometry}
+use Rattle.sb_base.specs.declared.geometry.GeometryFault.{GeometryFault}
+use Rattle.sb_base.specs.declared.size.SizeFault.{SizeFault}
+use Rattle.sb_base.specs.Shapes.{geometry_of}
+use Rattle.sb_base.specs.Sizes.{size_of}
+
+-- the rest of equal lists that are not empty
+tail : {X : Type 0} {x y : X} {xs ys : List X} → x ∷ xs ≡ y ∷ ys → xs ≡ ys
+tail same = cc
+
+-- the third byte of the first word
+abbrev third : List (List ℕ) → ℕ
+third words = slice_index_or (slice_index_or words 0 []) 2 0
+
+-- the third bytes of an option, a flag and a size differ
+option_or_flag : ◌≡◌ {A = ℕ} 112 98 → ⊥
+option_or_flag same = omega (arith, same)
+
+option_or_size : ◌≡◌ {A = ℕ} 112 115 → ⊥
+option_or_size same = omega (arith, same)
+
+flag_or_size : ◌≡◌ {A = ℕ} 98 115 → ⊥
+flag_or_size same = omega (arith, same)
+
+-- words from the prefix on
+abbrev front_words : Option (List ℕ) → Bool → List ℕ → List ℕ → List (List ℕ)
+front_words prefix hashed size directory =
+    option_words (codes "--prefix=") prefix ++ flag_words (codes "--blockHashPrefix") hashed
+    ++ (codes "--size=" ++ size) ∷ directory ∷ []
+
+-- without a size and a directory at their end words are of no values
+ends_badly : (words behind last : List (List ℕ)) (prefix : Option (List ℕ)) (hashed : Bool)
+    → TakesOption words (codes "--prefix=") prefix behind
+    → TakesFlag behind (codes "--blockHashPrefix") hashed last → AreLast last None
+    → (given : Option (List ℕ)) (flag : Bool) (size directory : List ℕ) → words ≡ front_words given flag size directory
+    → is_option directory ≡ false → ⊥
+ends_badly words behind last (Some value) true option flagged none (Some given) true size directory are plain =
+    none size directory (cc) plain
+ends_badly words behind last (Some value) true option flagged none (Some given) false size directory are plain =
+    flag_or_size (ap third (sym flagged ∙ tail (sym option ∙ are)))
+ends_badly words behind last (Some value) true option flagged none None true size directory are plain =
+    option_or_flag (ap third (sym option ∙ are))
+ends_badly words behind last (Some value) true option flagged none None false size directory are plain =
+    option_or_size (ap third (sym option ∙ are))
+ends_badly words behind last (Some value) false option flagged none (Some given) true size directory are plain =
+    flagged.1 _ (tail (sym option ∙ are))
+ends_badly words behind last (Some value) false option flagged none (Some given) false size directory are plain =
+    none size directory (cc) plain
+ends_badly words behind last (Some value) false option flagged none None true size directory are plain =
+    option_or_flag (ap third (sym option ∙ are))
+ends_badly words behind last (Some value) false option flagged none None false size directory are plain =
+    option_or_size (ap third (sym option ∙ are))
+ends_badly words behind last None true option flagged none (Some given) flag size directory are plain =
+    option.1 given _ are
+ends_badly words behind last None true option flagged none None true size directory are plain =
+    none size directory (cc) plain
+ends_badly words behind last None true option flagged none None false size directory are plain =
+    flag_or_size (ap third (sym flagged ∙ (option.0 ∙ are)))
+ends_badly words behind last None false option flagged none (Some given) flag size directory are plain =
+    option.1 given _ are
+ends_badly words behind last None false option flagged none None true size directory are plain =
+    flagged.1 _ (option.0 ∙ are)
+ends_badly words behind last None false option flagged none None false size directory are plain =
+    none size directory (cc) plain
+
+-- so the readers find no values only where there are none
+pub no_values : (words first second behind last : List (List ℕ)) (prefix : Option (List ℕ)) (hashed : Bool)
+    → words ≡ codes "--stdio" ∷ first → first ≡ codes "--test" ∷ second
+    → TakesOption second (codes "--prefix=") prefix behind
+    → TakesFlag behind (codes "--blockHashPrefix") hashed last → AreLast last None → ReadsWords words None
+no_values words first second behind last prefix hashed stdio test option flagged none given form =
+    let are : second ≡ front_words given.prefix given.hashed given.size given.directory =
+    tail (sym test ∙ tail (sym stdio ∙ form.words_are)) in
+    ends_badly second behind last prefix hashed option flagged none given.prefix given.hashed given.size given.directory
+    are form.plain
+
+-- the plan of values is never refused as words of no form
+shaped_form : (outcome : Result Geometry GeometryFault) → shaped outcome ≡ Err usage.NotBuilt → ⊥
+shaped_form (Ok geometry) refused = absurd (cc)
+shaped_form (Err fault) refused = absurd (cc)
+
+sized_form : (word : List ℕ) (size : Result ℕ SizeFault) → sized word size ≡ Err usage.NotBuilt → ⊥
+sized_form word (Ok bytes) refused = shaped_form (geometry_of bytes BLOCK_SIZE) refused
+sized_form word (Err fault) refused = absurd (cc)
+
+names_form : (prefix directory : List ℕ) (bad slash empty : Bool)
+    → ◌≡◌ {A = Result (Unit {0}) Usage} (if bad then Err (usage.BadPrefix prefix)
+    else if slash then Err usage.PrefixSlash else if empty then Err (usage.BadBucket directory) else Ok tt)
+    (Err usage.NotBuilt) → ⊥
+names_form prefix directory true slash empty refused = absurd (cc)
+names_form prefix directory false true empty refused = absurd (cc)
+names_form prefix directory false false true refused = absurd (cc)
+names_form prefix directory false false false refused = absurd (cc)
+
+planned_form : (geometry : Result Geometry Usage) (names : Result Unit Usage) (given : Given)
+    → (geometry ≡ Err usage.NotBuilt → ⊥) → (names ≡ Err usage.NotBuilt → ⊥)
+    → planned geometry names given ≡ Err usage.NotBuilt → ⊥
+planned_form (Err cause) names given fits named refused = fits (cc)
+planned_form (Ok geometry) (Err cause) given fits named refused = named (cc)
+planned_form (Ok geometry) (Ok checked) given fits named refused = absurd (cc)
+
+has_form : (given : Given) → plan_of given ≡ Err usage.NotBuilt → ⊥
+has_form given refused =
+    let prefix = prefix_or_empty given.prefix in
+    planned_form (sized given.size (size_of given.size)) (checked_names prefix given.directory) given
+    (sized_form given.size (size_of given.size))
+    (names_form prefix given.directory (is_bad_prefix prefix) (list_any (nat_eq 47) prefix)
+    (nat_eq (length given.directory) 0)) refused
+
+-- what values answer, the words answer
+pub planned_words : (words : List (List ℕ)) (given : Given) (outcome : Result PlanParts PlanFault) → AreWordsOf words given
+    → Answers (plan_of given) outcome → IsPlan words outcome
+planned_words words given (Ok plan) form answers = record { given = given; form = form; plan_is = answers }
+planned_words words given (Err (fault.Usage usage.NotBuilt)) form answers = absurd (has_form given answers)
+planned_words words given (Err (fault.Usage (usage.BadSize name word))) form answers =
+    record { given = given; form = form; fault_is = answers }
+planned_words words given (Err (fault.Usage (usage.Geometry cause))) form answers =
+    record { given = given; form = form; fault_is = answers }
+planned_words words given (Err (fault.Usage (usage.BadPrefix prefix))) form answers =
+    record { given = given; form = form; fault_is = answers }
+planned_words words given (Err (fault.Usage usage.PrefixSlash)) form answers =
+    record { given = given; form = form; fault_is = answers }
+planned_words words given (Err (fault.Usage (usage.BadBucket path))) form answers =
+    record { given = given; form = form; fault_is = answers }
+planned_words words given (Err fault.Memory) form answers = tt

@@ -1,0 +1,56 @@
+-- What the readers of words answer.
+use Rattle.std.specs.Prelude.{ℕ, ◌≡◌, Bool, true, false, List, [], ◌∷◌, ◌++◌, codes, Option, Some, None, Result, Ok, Err}
+use Rattle.std.specs.Option.{option_copied}
+use Rattle.s3backer.specs.Words.{Given, AreWordsOf, is_option}
+use Rattle.s3backer.specs.declared.words.Usage.{Usage}
+use Rattle.s3backer.specs.declared.words.PlanFault.{PlanFault}
+use Rattle.s3backer.specs.declared.words.PlanFault.TheVariants as fault
+use Rattle.s3backer.specs.declared.words.Values.{Values}
+
+-- the values as bytes
+abbrev pub given_of : Values → Given
+given_of values = record {
+  prefix = option_copied values.prefix;
+  hashed = values.hashed;
+  size = values.size.now;
+  directory = values.directory.now;
+}
+
+-- a word is the first, and the rest is behind it
+abbrev pub StripsWord : List (List ℕ) → List ℕ → Option (List (List ℕ)) → Type 0
+StripsWord words word None = (rest : List (List ℕ)) → words ≡ word ∷ rest → ⊥
+StripsWord words word (Some rest) = words ≡ word ∷ rest
+
+-- an option is the first word, with this value and the rest behind it, or it isn't
+abbrev pub TakesOption : List (List ℕ) → List ℕ → Option (List ℕ) → List (List ℕ) → Type 0
+TakesOption words name None rest =
+    (rest ≡ words) × ((value : List ℕ) (behind : List (List ℕ)) → words ≡ (name ++ value) ∷ behind → ⊥)
+TakesOption words name (Some value) rest = words ≡ (name ++ value) ∷ rest
+
+-- a flag is the first word, with the rest behind it, or it isn't
+abbrev pub TakesFlag : List (List ℕ) → List ℕ → Bool → List (List ℕ) → Type 0
+TakesFlag words name true rest = words ≡ name ∷ rest
+TakesFlag words name false rest = (rest ≡ words) × ((behind : List (List ℕ)) → words ≡ name ∷ behind → ⊥)
+
+-- the words are a size and a directory, or they aren't
+abbrev pub AreLast : List (List ℕ) → Option (List ℕ × List ℕ) → Type 0
+AreLast words None =
+    (size directory : List ℕ) → words ≡ (codes "--size=" ++ size) ∷ directory ∷ [] → is_option directory ≡ false → ⊥
+AreLast words (Some (size, directory)) =
+    (words ≡ (codes "--size=" ++ size) ∷ directory ∷ []) × (is_option directory ≡ false)
+
+-- the words give these values, or none
+abbrev pub ReadsWords : List (List ℕ) → Option Given → Type 0
+ReadsWords words None = (given : Given) → AreWordsOf words given → ⊥
+ReadsWords words (Some given) = AreWordsOf words given
+
+-- a call answers this value or fault, or want of memory
+abbrev pub Answers : {X : Type 0} → Result X Usage → Result X PlanFault → Type 0
+Answers expected (Ok value) = expected ≡ Ok value
+Answers expected (Err (fault.Usage usage)) = expected ≡ Err usage
+Answers expected (Err fault.Memory) = Unit {0}
+
+-- a fault of words, or want of memory for telling it
+abbrev pub refused_as : {E : Type 0} → Result Usage E → PlanFault
+refused_as (Ok usage) = fault.Usage usage
+refused_as (Err lack) = fault.Memory
