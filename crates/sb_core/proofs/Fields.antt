@@ -19,8 +19,8 @@ use Rattle.sb_history.specs.AccessRules.{EndsPut, EndsFetch, MayTake}
 use Rattle.sb_history.specs.CachePolicy.{FitsCache}
 use Rattle.sb_core.specs.declared.state.State.{State}
 use Rattle.sb_core.specs.declared.state.State.TheVariants.{Missing, Reading, Clean, Dirty, Writing, Writing2}
-use Rattle.sb_core.specs.Represents.{nothing_found, HasOneBlock, only_at, content_in, OpenGet, get_in, open_get}
-use Rattle.sb_core.specs.Represents.{open_put, writes_since, IsStampOf, IsOnDisk}
+use Rattle.sb_core.specs.States.{only_at, content_in, OpenGet, get_in, IsOnDisk}
+use Rattle.sb_core.specs.Represents.{nothing_found, HasOneBlock, open_get, open_put, writes_since, IsStampOf}
 use Rattle.sb_core.proofs.Histories.{none_unverified, EndedBy, NewestWithin, count_none, count_one, lowest_none}
 use Rattle.sb_core.proofs.Histories.{lightest_none, lightest_one}
 
@@ -40,19 +40,20 @@ some_get : (fetch : Option Fetch) → is_some fetch ≡ is_some (open_get fetch)
 some_get None = refl
 some_get (Some fetch) = refl
 
-pub ends_fetch : (block_size : ℕ) (fetch : Option Fetch) (pass begun : ℕ) (answer : Shown) (taken : Bool)
-    → open_get fetch ≡ Some (record { pass = pass; begun = begun; expect = None; verify = None })
-    → ((expect : Option Expect) → expect ≡ None → MayTake expect (answer_digest block_size None answer) taken)
-    → EndsFetch block_size fetch pass answer None taken
-ends_fetch block_size None pass begun answer taken is takes = absurd (cc)
-ends_fetch block_size (Some fetch) pass begun answer taken is takes =
+pub ends_fetch :
+    (block_size : ℕ) (fetch : Option Fetch) (pass begun : ℕ) (expect : Option Expect) (answer : Shown) (taken : Bool)
+    → open_get fetch ≡ Some (record { pass = pass; begun = begun; expect = expect; verify = None })
+    → MayTake expect (answer_digest block_size None answer) taken → EndsFetch block_size fetch pass answer None taken
+ends_fetch block_size None pass begun expect answer taken is takes = absurd (cc)
+ends_fetch block_size (Some fetch) pass begun expect answer taken is takes =
     let shown : OpenGet = record
     { pass = fetch.pass; begun = fetch.reading; expect = fetch.expect; verify = fetch.verify } in
-    let given : OpenGet = record { pass = pass; begun = begun; expect = None; verify = None } in
+    let given : OpenGet = record { pass = pass; begun = begun; expect = expect; verify = None } in
     let one : shown ≡ given = cc in (
       sym (ap (λ (get : OpenGet). get.verify) one),
       sym (ap (λ (get : OpenGet). get.pass) one),
-      takes fetch.expect (ap (λ (get : OpenGet). get.expect) one),
+      subst (λ (e : Option Expect). MayTake e (answer_digest block_size None answer) taken)
+          (sym (ap (λ (get : OpenGet). get.expect) one)) takes,
     )
 
 -- PUTs
@@ -99,7 +100,7 @@ expected_off settings reading (put ∷ puts) off = expected_off_ending settings 
 -- the cache's entry
 abbrev pub is_occupied_in : State → ℕ → Bool
 is_occupied_in Missing block = false
-is_occupied_in (Reading held pass begun) block = nat_eq held block
+is_occupied_in (Reading held pass begun expect) block = nat_eq held block
 is_occupied_in (Clean held) block = nat_eq held block
 is_occupied_in (Dirty held stamp) block = nat_eq held block
 is_occupied_in (Writing held pass stamp) block = nat_eq held block
@@ -112,8 +113,8 @@ held_occupies false x = refl
 occupied_state : (state : State) (body : List ℕ) (block : ℕ)
     → (is_some (content_in state body block) || (false || is_some (get_in state block))) ≡ is_occupied_in state block
 occupied_state Missing body block = refl
-occupied_state (Reading held pass begun) body block =
-    some_at (nat_eq held block) (record { pass = pass; begun = begun; expect = None; verify = None })
+occupied_state (Reading held pass begun expect) body block =
+    some_at (nat_eq held block) (record { pass = pass; begun = begun; expect = expect; verify = None })
 occupied_state (Clean held) body block = held_occupies (nat_eq held block) body
 occupied_state (Dirty held stamp) body block = held_occupies (nat_eq held block) body
 occupied_state (Writing held pass stamp) body block = held_occupies (nat_eq held block) body
@@ -130,7 +131,7 @@ occupied_is block_size state body past block cached get =
 fits_in : (blocks : ℕ) (test : ℕ → Bool) (state : State) → IsOnDisk blocks state
     → ((block : ℕ) → test block ≡ is_occupied_in state block) → count test blocks ≤ 1
 fits_in blocks test Missing on is = let e = count_none test is blocks in omega arith
-fits_in blocks test (Reading held pass begun) on is = let e = count_one test held is blocks on in omega arith
+fits_in blocks test (Reading held pass begun expect) on is = let e = count_one test held is blocks on in omega arith
 fits_in blocks test (Clean held) on is = let e = count_one test held is blocks on in omega arith
 fits_in blocks test (Dirty held stamp) on is = let e = count_one test held is blocks on in omega arith
 fits_in blocks test (Writing held pass stamp) on is = let e = count_one test held is blocks on in omega arith
@@ -138,7 +139,7 @@ fits_in blocks test (Writing2 held pass stamp later) on is = let e = count_one t
 
 -- the cache has one entry, which one block takes at most
 pub fits_cache : (geometry : Geometry) (settings : Settings) (state : State) (body : List ℕ) (past : List Entry)
-    → HasOneBlock settings → IsOnDisk geometry.blocks state
+    → HasOneBlock geometry.blocks settings → IsOnDisk geometry.blocks state
     → ((block : ℕ) → cached_content geometry.block_size nothing_found past block ≡ content_in state body block)
     → ((block : ℕ) → open_get (fetch_of past block) ≡ get_in state block)
     → FitsCache geometry settings nothing_found past
@@ -193,7 +194,8 @@ victim_none geometry held stamp body past contents owes puts =
 -- the entry is taken
 pub full_cache :
     (geometry : Geometry) (settings : Settings) (state : State) (held : ℕ) (body : List ℕ) (past : List Entry)
-    → HasOneBlock settings → held < geometry.blocks → ((block : ℕ) → is_occupied_in state block ≡ nat_eq held block)
+    → HasOneBlock geometry.blocks settings → held < geometry.blocks → ((block : ℕ)
+    → is_occupied_in state block ≡ nat_eq held block)
     → ((block : ℕ) → cached_content geometry.block_size nothing_found past block ≡ content_in state body block)
     → ((block : ℕ) → open_get (fetch_of past block) ≡ get_in state block)
     → count (is_occupied geometry.block_size nothing_found past) geometry.blocks ≡ settings.cache_size
@@ -251,26 +253,27 @@ by_test false body held = absurd (cc)
 pub held_is : (state : State) (body : List ℕ) (block : ℕ) → is_some (content_in state body block) ≡ true
     → content_in state body block ≡ Some body
 held_is Missing body block held = absurd (cc)
-held_is (Reading of pass begun) body block held = absurd (cc)
+held_is (Reading of pass begun expect) body block held = absurd (cc)
 held_is (Clean of) body block held = by_test (nat_eq of block) body held
 held_is (Dirty of stamp) body block held = by_test (nat_eq of block) body held
 held_is (Writing of pass stamp) body block held = by_test (nat_eq of block) body held
 held_is (Writing2 of pass stamp later) body block held = by_test (nat_eq of block) body held
 
 -- the only state in which a GET of a block is open
-get_reads : (held pass begun block : ℕ) (get : OpenGet) (t : Bool) → nat_eq held block ≡ t
-    → (if t then Some (record { pass = pass; begun = begun; expect = None; verify = None }) else None) ≡ Some get
-    → (Reading held pass begun ≡ Reading block get.pass get.begun) × (get.verify ≡ None)
-get_reads held pass begun block get true here is =
-    let given : OpenGet = record { pass = pass; begun = begun; expect = None; verify = None } in
+get_reads : (held pass begun block : ℕ) (expect : Option Expect) (get : OpenGet) (t : Bool) → nat_eq held block ≡ t
+    → (if t then Some (record { pass = pass; begun = begun; expect = expect; verify = None }) else None) ≡ Some get
+    → (Reading held pass begun expect ≡ Reading block get.pass get.begun get.expect) × (get.verify ≡ None)
+get_reads held pass begun block expect get true here is =
+    let given : OpenGet = record { pass = pass; begun = begun; expect = expect; verify = None } in
     let one : given ≡ get = cc in
     let at : held ≡ block = eqb-true held block here in
     (rw (at, ← one) refl, sym (ap (λ (g : OpenGet). g.verify) one))
-get_reads held pass begun block get false here is = absurd (cc)
+get_reads held pass begun block expect get false here is = absurd (cc)
 
 pub get_is_reading : (state : State) (block : ℕ) (get : OpenGet) → get_in state block ≡ Some get
-    → (state ≡ Reading block get.pass get.begun) × (get.verify ≡ None)
-get_is_reading (Reading held pass begun) block get is = get_reads held pass begun block get (nat_eq held block) refl is
+    → (state ≡ Reading block get.pass get.begun get.expect) × (get.verify ≡ None)
+get_is_reading (Reading held pass begun expect) block get is =
+    get_reads held pass begun block expect get (nat_eq held block) refl is
 get_is_reading Missing block get is = absurd (cc)
 get_is_reading (Clean held) block get is = absurd (cc)
 get_is_reading (Dirty held stamp) block get is = absurd (cc)

@@ -5,3 +5,8 @@ pub mod Events
 pub mod WriteEvents
 pub mod PutEnds
 pub mod FlushEvents
+pub mod PutLaws
+pub mod Keeping
+pub mod GetEnds
+pub mod Waiting
+pub mod PutBegins

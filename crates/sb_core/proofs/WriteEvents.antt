@@ -15,11 +15,12 @@ use Rattle.sb_history.specs.Flushes.{last_number, flushes_begun, flush_place}
 use Rattle.sb_history.specs.Cache.{is_known_zero, cached_content, outcome, cached_unless_zeros}
 use Rattle.sb_history.specs.Writes.{unacked_writes}
 use Rattle.sb_history.specs.AccessRules.{last_reading, FollowsAccessRules}
+use Rattle.sb_window.specs.Windows.{WindowState}
 use Rattle.sb_core.specs.declared.state.State.{State}
 use Rattle.sb_core.specs.declared.state.State.TheVariants.{Missing, Reading, Clean, Dirty, Writing, Writing2}
 use Rattle.sb_core.specs.Moves.{state_written}
-use Rattle.sb_core.specs.Represents.{nothing_found, content_in, get_in, open_get, put_in, open_put, stamp_in, later_in}
-use Rattle.sb_core.specs.Represents.{writes_since, IsStampOf, IsOnDisk, RepresentsBy}
+use Rattle.sb_core.specs.States.{content_in, get_in, put_in, stamp_in, later_in, IsOnDisk}
+use Rattle.sb_core.specs.Represents.{nothing_found, open_get, open_put, writes_since, IsStampOf, RepresentsBy}
 use Rattle.sb_core.proofs.Histories.{none_known_zero, newest_within, NewestWithin}
 use Rattle.sb_core.proofs.Fields.{same, get_closed, fits_cache, no_stamp, kept_stamp, since_closed}
 use Rattle.sb_core.proofs.Events.{at}
@@ -99,7 +100,8 @@ module _ (geometry : Geometry) (settings : Settings) (entry : Entry) (past : Lis
 
 -- what writes have in common
 writes_as :
-    (geometry : Geometry) (settings : Settings) (reading epoch now : ℕ) (before after : State) (old new : List ℕ)
+    (geometry : Geometry) (settings : Settings) {window : WindowState} (reading epoch now : ℕ)
+    (before after : State) (old new : List ℕ)
     (past : List Entry) (pass : ℕ) (part : Part) (bytes : List ℕ) → reading ≤ now → IsOnDisk geometry.blocks after →
     length new ≡ geometry.block_size
     → part.offset + length bytes ≤ geometry.block_size
@@ -114,8 +116,8 @@ writes_as :
     → ((b : ℕ) → IsStampOf (at pass now (kind.Write part bytes) ∷ past)
     (writes_since (puts_of past b) (unacked_writes geometry.block_size nothing_found
     (at pass now (kind.Write part bytes) ∷ past) b)) (later_in after b))
-    → RepresentsBy geometry settings reading epoch before old past
-    → RepresentsBy geometry settings now epoch after new (at pass now (kind.Write part bytes) ∷ past)
+    → RepresentsBy geometry settings window reading epoch before old past
+    → RepresentsBy geometry settings window now epoch after new (at pass now (kind.Write part bytes) ∷ past)
 writes_as geometry settings reading epoch now before after old new past pass part bytes later on sized fits whole
     contents unread idle same_put stamps since s =
     let entry = at pass now (kind.Write part bytes) in
@@ -132,6 +134,7 @@ writes_as geometry settings reading epoch now before after old new past pass par
       puts = λ b. s.puts b ∙ same_put b;
       stamps = stamps;
       later = since;
+      last_puts = s.last_puts;
       rules = (
         record {
           no_get = get_closed (fetch_of past part.block) (s.gets part.block ∙ unread part.block);
@@ -150,19 +153,21 @@ not_held true cached body here is uncached = cc
 not_held false cached body here is uncached = cc
 
 -- a write of the block that is held, by the state
-abbrev HeldWrite : Geometry → Settings → ℕ → ℕ → ℕ → List ℕ → List Entry → ℕ → Part → List ℕ → State → Type 0
-HeldWrite geometry settings reading epoch now old past pass part bytes state =
+abbrev HeldWrite : Geometry → Settings → WindowState → ℕ → ℕ → ℕ → List ℕ → List Entry → ℕ → Part → List ℕ → State
+    → Type 0
+HeldWrite geometry settings window reading epoch now old past pass part bytes state =
     reading ≤ now → part.offset + length bytes ≤ geometry.block_size
     → length (overlay old part.offset bytes) ≡ geometry.block_size
-    → RepresentsBy geometry settings reading epoch state old past
-    → RepresentsBy geometry settings now epoch (state_written state epoch) (overlay old part.offset bytes)
+    → RepresentsBy geometry settings window reading epoch state old past
+    → RepresentsBy geometry settings window now epoch (state_written state epoch) (overlay old part.offset bytes)
     (at pass now (kind.Write part bytes) ∷ past)
 
 clean_written :
-    (geometry : Geometry) (settings : Settings) (reading epoch now : ℕ) (old : List ℕ) (past : List Entry) (pass : ℕ)
-    (part : Part) (bytes : List ℕ) → HeldWrite geometry settings reading epoch now old past pass part bytes
+    (geometry : Geometry) (settings : Settings) (window : WindowState) (reading epoch now : ℕ) (old : List ℕ)
+    (past : List Entry) (pass : ℕ)
+    (part : Part) (bytes : List ℕ) → HeldWrite geometry settings window reading epoch now old past pass part bytes
     (Clean part.block)
-clean_written geometry settings reading epoch now old past pass part bytes later fits sized s =
+clean_written geometry settings window reading epoch now old past pass part bytes later fits sized s =
     let size = geometry.block_size in
     let entry = at pass now (kind.Write part bytes) in
     writes_as geometry settings reading epoch now (Clean part.block) (Dirty part.block epoch) old
@@ -181,10 +186,11 @@ clean_written geometry settings reading epoch now old past pass part bytes later
     s
 
 dirty_written :
-    (geometry : Geometry) (settings : Settings) (reading epoch now : ℕ) (old : List ℕ) (past : List Entry) (pass : ℕ)
-    (part : Part) (bytes : List ℕ) (stamp : ℕ) → HeldWrite geometry settings reading epoch now old past pass part
+    (geometry : Geometry) (settings : Settings) (window : WindowState) (reading epoch now : ℕ) (old : List ℕ)
+    (past : List Entry) (pass : ℕ)
+    (part : Part) (bytes : List ℕ) (stamp : ℕ) → HeldWrite geometry settings window reading epoch now old past pass part
     bytes (Dirty part.block stamp)
-dirty_written geometry settings reading epoch now old past pass part bytes stamp later fits sized s =
+dirty_written geometry settings window reading epoch now old past pass part bytes stamp later fits sized s =
     let size = geometry.block_size in
     let entry = at pass now (kind.Write part bytes) in
     writes_as geometry settings reading epoch now (Dirty part.block stamp) (Dirty part.block stamp) old
@@ -202,10 +208,12 @@ dirty_written geometry settings reading epoch now old past pass part bytes stamp
     s
 
 writing_written :
-    (geometry : Geometry) (settings : Settings) (reading epoch now : ℕ) (old : List ℕ) (past : List Entry) (pass : ℕ)
-    (part : Part) (bytes : List ℕ) (by stamp : ℕ) → HeldWrite geometry settings reading epoch now old past pass part
+    (geometry : Geometry) (settings : Settings) (window : WindowState) (reading epoch now : ℕ) (old : List ℕ)
+    (past : List Entry) (pass : ℕ)
+    (part : Part) (bytes : List ℕ) (by stamp : ℕ)
+    → HeldWrite geometry settings window reading epoch now old past pass part
     bytes (Writing part.block by stamp)
-writing_written geometry settings reading epoch now old past pass part bytes by stamp later fits sized s =
+writing_written geometry settings window reading epoch now old past pass part bytes by stamp later fits sized s =
     let size = geometry.block_size in
     let entry = at pass now (kind.Write part bytes) in
     writes_as geometry settings reading epoch now (Writing part.block by stamp) (Writing2 part.block by stamp epoch) old
@@ -227,10 +235,12 @@ writing_written geometry settings reading epoch now old past pass part bytes by 
     s
 
 writing2_written :
-    (geometry : Geometry) (settings : Settings) (reading epoch now : ℕ) (old : List ℕ) (past : List Entry) (pass : ℕ)
-    (part : Part) (bytes : List ℕ) (by stamp more : ℕ) → HeldWrite geometry settings reading epoch now old past pass
+    (geometry : Geometry) (settings : Settings) (window : WindowState) (reading epoch now : ℕ) (old : List ℕ)
+    (past : List Entry) (pass : ℕ)
+    (part : Part) (bytes : List ℕ) (by stamp more : ℕ)
+    → HeldWrite geometry settings window reading epoch now old past pass
     part bytes (Writing2 part.block by stamp more)
-writing2_written geometry settings reading epoch now old past pass part bytes by stamp more later fits sized s =
+writing2_written geometry settings window reading epoch now old past pass part bytes by stamp more later fits sized s =
     let size = geometry.block_size in
     let entry = at pass now (kind.Write part bytes) in
     writes_as geometry settings reading epoch now (Writing2 part.block by stamp more)
@@ -259,34 +269,39 @@ held_at held block body true here is = eqb-true held block here
 held_at held block body false here is = absurd (cc)
 
 pub held_written :
-    (geometry : Geometry) (settings : Settings) (reading epoch now : ℕ) (old : List ℕ) (past : List Entry) (pass : ℕ)
-    (part : Part) (bytes : List ℕ) (state : State) → content_in state old part.block ≡ Some old → HeldWrite geometry
-    settings reading epoch now old past pass part bytes state
-held_written geometry settings reading epoch now old past pass part bytes (Clean held) is =
-    subst (λ (h : ℕ). HeldWrite geometry settings reading epoch now old past pass part bytes (Clean h))
+    (geometry : Geometry) (settings : Settings) (window : WindowState) (reading epoch now : ℕ) (old : List ℕ)
+    (past : List Entry) (pass : ℕ)
+    (part : Part) (bytes : List ℕ) (state : State) → content_in state old part.block ≡ Some old
+    → HeldWrite geometry settings window reading epoch now old past pass part bytes state
+held_written geometry settings window reading epoch now old past pass part bytes (Clean held) is =
+    subst (λ (h : ℕ). HeldWrite geometry settings window reading epoch now old past pass part bytes (Clean h))
     (sym (held_at held part.block old (nat_eq held part.block) refl is))
-    (clean_written geometry settings reading epoch now old past pass part bytes)
-held_written geometry settings reading epoch now old past pass part bytes (Dirty held stamp) is =
-    subst (λ (h : ℕ). HeldWrite geometry settings reading epoch now old past pass part bytes (Dirty h stamp))
+    (clean_written geometry settings window reading epoch now old past pass part bytes)
+held_written geometry settings window reading epoch now old past pass part bytes (Dirty held stamp) is =
+    subst (λ (h : ℕ). HeldWrite geometry settings window reading epoch now old past pass part bytes (Dirty h stamp))
     (sym (held_at held part.block old (nat_eq held part.block) refl is))
-    (dirty_written geometry settings reading epoch now old past pass part bytes stamp)
-held_written geometry settings reading epoch now old past pass part bytes (Writing held by stamp) is =
-    subst (λ (h : ℕ). HeldWrite geometry settings reading epoch now old past pass part bytes (Writing h by stamp))
+    (dirty_written geometry settings window reading epoch now old past pass part bytes stamp)
+held_written geometry settings window reading epoch now old past pass part bytes (Writing held by stamp) is =
+    subst (λ (h : ℕ). HeldWrite geometry settings window reading epoch now old past pass part bytes
+    (Writing h by stamp))
     (sym (held_at held part.block old (nat_eq held part.block) refl is))
-    (writing_written geometry settings reading epoch now old past pass part bytes by stamp)
-held_written geometry settings reading epoch now old past pass part bytes (Writing2 held by stamp more) is =
-    subst (λ (h : ℕ). HeldWrite geometry settings reading epoch now old past pass part bytes (Writing2 h by stamp more))
+    (writing_written geometry settings window reading epoch now old past pass part bytes by stamp)
+held_written geometry settings window reading epoch now old past pass part bytes (Writing2 held by stamp more) is =
+    subst (λ (h : ℕ). HeldWrite geometry settings window reading epoch now old past pass part bytes
+    (Writing2 h by stamp more))
     (sym (held_at held part.block old (nat_eq held part.block) refl is))
-    (writing2_written geometry settings reading epoch now old past pass part bytes by stamp more)
-held_written geometry settings reading epoch now old past pass part bytes Missing is = absurd (cc)
-held_written geometry settings reading epoch now old past pass part bytes (Reading held by begun) is = absurd (cc)
+    (writing2_written geometry settings window reading epoch now old past pass part bytes by stamp more)
+held_written geometry settings window reading epoch now old past pass part bytes Missing is = absurd (cc)
+held_written geometry settings window reading epoch now old past pass part bytes
+    (Reading held by begun expect) is = absurd (cc)
 
 -- a write of a whole block where the entry is free
 pub whole_written :
-    (geometry : Geometry) (settings : Settings) (reading epoch now : ℕ) (old : List ℕ) (past : List Entry) (pass : ℕ)
+    (geometry : Geometry) (settings : Settings) {window : WindowState} (reading epoch now : ℕ) (old : List ℕ)
+    (past : List Entry) (pass : ℕ)
     (part : Part) (bytes : List ℕ) → reading ≤ now → part.block < geometry.blocks → part.offset ≡ 0 → length bytes ≡
-    geometry.block_size → RepresentsBy geometry settings reading epoch Missing old past
-    → RepresentsBy geometry settings now epoch (Dirty part.block epoch) bytes
+    geometry.block_size → RepresentsBy geometry settings window reading epoch Missing old past
+    → RepresentsBy geometry settings window now epoch (Dirty part.block epoch) bytes
     (at pass now (kind.Write part bytes) ∷ past)
 whole_written geometry settings reading epoch now old past pass part bytes later on start whole s =
     let size = geometry.block_size in

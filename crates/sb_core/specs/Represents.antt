@@ -1,9 +1,9 @@
 -- Which histories a core represents: those that give each of its fields. Histories are newest first.
-use Rattle.std.specs.Prelude.{ℕ, ◌≡◌, ◌<◌, ◌≤◌, Bool, true, false, nat_eq, nat_lt, if◌then◌else◌, List, [], ◌∷◌, length}
-use Rattle.std.specs.Prelude.{filter, nat_le, Option, Some, None, is_none, IfSome, min, max, IsSome}
+use Rattle.std.specs.Prelude.{ℕ, ◌≡◌, ◌≤◌, Bool, true, false, nat_lt, if◌then◌else◌, List, [], ◌∷◌, length, filter}
+use Rattle.std.specs.Prelude.{nat_le, Option, Some, None, is_none, IfSome, min, max, IsSome}
 use Rattle.sb_base.specs.declared.geometry.Geometry.{Geometry}
 use Rattle.sb_base.specs.declared.settings.Settings.{Settings}
-use Rattle.sb_base.specs.declared.line.Expect.{Expect}
+use Rattle.sb_base.specs.SettingsTable.{IsChecked}
 use Rattle.sb_base.specs.declared.entry.Entry.{Entry}
 use Rattle.sb_history.specs.Puts.{Put, puts_of}
 use Rattle.sb_history.specs.Gets.{Fetch, fetch_of}
@@ -12,45 +12,20 @@ use Rattle.sb_history.specs.Cache.{Found, cached_content}
 use Rattle.sb_history.specs.Writes.{is_nil, unacked_writes, is_unstamped_by}
 use Rattle.sb_history.specs.AccessRules.{last_reading, FollowsAccessRules}
 use Rattle.sb_history.specs.CachePolicy.{FollowsCachePolicy}
+use Rattle.sb_window.specs.Windows.{WindowState}
 use Rattle.sb_core.specs.declared.machine.Core.{Core}
 use Rattle.sb_core.specs.declared.state.State.{State}
-use Rattle.sb_core.specs.declared.state.State.TheVariants.{Missing, Reading, Clean, Dirty, Writing, Writing2}
+use Rattle.sb_core.specs.States.{content_in, OpenGet, get_in, put_in, stamp_in, later_in, IsOnDisk}
+use Rattle.sb_core.specs.PutWindow.{HasPutsOf}
 
 -- a mount that found nothing: no cache file, and no zero marks
 abbrev pub nothing_found : Found
 nothing_found = record { body = λ block. None; marks = false }
 
--- settings for a cache of one block, with no window and so with no spacing of puts
-pub record HasOneBlock (settings : Settings) : Type 0 where
+-- settings for a disk of so many blocks whose cache holds one
+pub record HasOneBlock (blocks : ℕ) (settings : Settings) : Type 0 where
   pub cache_size : settings.cache_size ≡ 1
-  pub window : settings.md5_size ≡ 0
-  pub spacing : settings.min_write_delay ≡ 0
-
--- what one block has and no other
-abbrev pub only_at : {X : Type 0} → ℕ → X → ℕ → Option X
-only_at held x block = if nat_eq held block then Some x else None
-
--- the content that the core has of a block
-abbrev pub content_in : State → List ℕ → ℕ → Option (List ℕ)
-content_in Missing body block = None
-content_in (Reading held pass begun) body block = None
-content_in (Clean held) body block = only_at held body block
-content_in (Dirty held stamp) body block = only_at held body block
-content_in (Writing held pass stamp) body block = only_at held body block
-content_in (Writing2 held pass stamp later) body block = only_at held body block
-
--- an open GET: its pass, the reading of its begin, the digest that it has to show, and the one that it asks about
-pub record OpenGet : Type 0 where
-  pub pass : ℕ
-  pub begun : ℕ
-  pub expect : Option Expect
-  pub verify : Option (List ℕ)
-
--- the GET of a block that is open in the core
-abbrev pub get_in : State → ℕ → Option OpenGet
-get_in (Reading held pass begun) block =
-    only_at held (record { pass = pass; begun = begun; expect = None; verify = None }) block
-get_in state block = None
+  pub checked : IsChecked settings (Some blocks)
 
 -- the GET that is open in a history
 abbrev pub open_get : Option Fetch → Option OpenGet
@@ -58,28 +33,10 @@ open_get None = None
 open_get (Some fetch) =
     Some (record { pass = fetch.pass; begun = fetch.reading; expect = fetch.expect; verify = fetch.verify })
 
--- the pass of the PUT of a block that is open in the core
-abbrev pub put_in : State → ℕ → Option ℕ
-put_in (Writing held pass stamp) block = only_at held pass block
-put_in (Writing2 held pass stamp later) block = only_at held pass block
-put_in state block = None
-
 -- the pass of the PUT that is open in a history
 abbrev pub open_put : List Put → Option ℕ
 open_put [] = None
 open_put (put ∷ puts) = if is_none put.ending then Some put.pass else None
-
--- the epoch at the first write of a block that no put has acknowledged
-abbrev pub stamp_in : State → ℕ → Option ℕ
-stamp_in (Dirty held stamp) block = only_at held stamp block
-stamp_in (Writing held pass stamp) block = only_at held stamp block
-stamp_in (Writing2 held pass stamp later) block = only_at held stamp block
-stamp_in state block = None
-
--- the epoch at the first write of a block since its open PUT began
-abbrev pub later_in : State → ℕ → Option ℕ
-later_in (Writing2 held pass stamp later) block = only_at held later block
-later_in state block = None
 
 -- those of some writes that came since the put began that is open
 abbrev pub writes_since : List Put → List ℕ → List ℕ
@@ -98,19 +55,10 @@ pub record IsStampOf (past : List Entry) (writes : List ℕ) (stamp : Option ℕ
   pub marks :
       (mark place : ℕ) → flush_place past mark ≡ Some place → is_unstamped_by mark place writes ≡ is_above stamp mark
 
--- the block of the entry is on the disk
-abbrev pub IsOnDisk : ℕ → State → Type 0
-IsOnDisk blocks Missing = Unit {0}
-IsOnDisk blocks (Reading held pass begun) = held < blocks
-IsOnDisk blocks (Clean held) = held < blocks
-IsOnDisk blocks (Dirty held stamp) = held < blocks
-IsOnDisk blocks (Writing held pass stamp) = held < blocks
-IsOnDisk blocks (Writing2 held pass stamp later) = held < blocks
-
 -- fields are those that a history gives, and the history follows the access rules and the cache policy
-pub record RepresentsBy (geometry : Geometry) (settings : Settings) (reading epoch : ℕ) (state : State) (body : List ℕ)
-    (past : List Entry) : Type 0 where
-  pub base : HasOneBlock settings
+pub record RepresentsBy (geometry : Geometry) (settings : Settings) (window : WindowState) (reading epoch : ℕ)
+    (state : State) (body : List ℕ) (past : List Entry) : Type 0 where
+  pub base : HasOneBlock geometry.blocks settings
   pub sized : length body ≡ geometry.block_size
   pub on_disk : IsOnDisk geometry.blocks state
   pub last : reading ≡ last_reading past
@@ -123,12 +71,18 @@ pub record RepresentsBy (geometry : Geometry) (settings : Settings) (reading epo
   pub later : (block : ℕ) → IsStampOf past
       (writes_since (puts_of past block) (unacked_writes geometry.block_size nothing_found past block))
       (later_in state block)
+  pub last_puts : HasPutsOf settings window past
   pub rules : FollowsAccessRules geometry settings nothing_found past
   pub policy : FollowsCachePolicy geometry settings nothing_found past
 
+-- a core represents a history, but that its greatest reading is this one
+abbrev pub RepresentsAt : ℕ → Core → List Entry → Type 0
+RepresentsAt reading core past =
+    RepresentsBy core.geometry core.settings core.window reading core.epoch core.state core.body.items past
+
 -- a core represents a history
 abbrev pub Represents : Core → List Entry → Type 0
-Represents core past = RepresentsBy core.geometry core.settings core.reading core.epoch core.state core.body.items past
+Represents core past = RepresentsAt core.reading core past
 
 -- the disk's geometry
 abbrev pub geometry_of : Core → Geometry
@@ -137,6 +91,10 @@ geometry_of core = core.geometry
 -- the disk's settings
 abbrev pub settings_of : Core → Settings
 settings_of core = core.settings
+
+-- the window of the disk's last puts
+abbrev pub window_of : Core → WindowState
+window_of core = core.window
 
 -- the greatest reading so far, which is that of the newest entry
 abbrev pub reading_of : Core → ℕ

@@ -5,6 +5,7 @@ mod flushes;
 mod job;
 mod machine;
 mod reads;
+mod room;
 mod state;
 mod step;
 #[cfg(test)]

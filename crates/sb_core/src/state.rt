@@ -5,10 +5,10 @@
 //! | `Missing` | `Reading` | `read`, and `write` of less than a block: a GET begins |
 //! | `Missing` | `Dirty` | `write` of a whole block |
 //! | `Reading` | `Clean` | `get_end` of an answer |
-//! | `Reading` | `Missing` | `get_end` of a failure |
+//! | `Reading` | `Missing` | `get_end` of a failure, and of a stale answer |
 //! | `Clean` | `Missing` | `read` and `write` of another block: this one is dropped |
 //! | `Clean`, `Dirty` | `Dirty` | `write` |
-//! | `Dirty` | `Writing` | `read` and `write` of another block, `flush_step`: a PUT begins |
+//! | `Dirty` | `Writing` | `read` and `write` of another block, `flush_step`: a PUT begins, once the window lets it |
 //! | `Writing`, `Writing2` | `Writing2` | `write` |
 //! | `Writing` | `Clean` | `put_end`, ok |
 //! | `Writing` | `Dirty` | `put_end`, failed |
@@ -16,16 +16,19 @@
 
 ghost use Rattle.std.specs.Prelude.{◌≡◌};
 
+use sb_base::Expect;
+
 /// What the entry holds. A pass is the number of the pass that began the request, and a stamp the epoch at the first
 /// write that no PUT has acknowledged.
 #[derive(Drop, Clone, Copy, PartialEq, Eq, Debug)]
 pub(crate) enum State {
     Missing,
-    /// A GET is open, and began at this reading.
+    /// A GET is open. It began at this reading, and has to show this digest.
     Reading {
         block: u32,
         pass: u64,
         begun: u64,
+        expect: Option<Expect>,
     },
     /// The body is what the store showed, or what it acknowledged.
     Clean {

@@ -1,7 +1,7 @@
 //! What the core answers.
 
 use crate::job::{GetJob, PutJob};
-use sb_base::Why;
+use sb_base::{Digest, Why};
 
 /// The answer to a read.
 pub enum ReadStep {
@@ -48,4 +48,6 @@ pub enum GetDone {
     Taken,
     /// The GET failed. The block isn't held.
     Failed,
+    /// The answer has another digest than that of the block's last put. The block isn't held.
+    Stale { expected: Digest, shown: Digest },
 }

@@ -51,7 +51,7 @@ impl<T: Tape> Alone<T> {
         ensures runs { RunsWhere (HasBegun mark) self.old.names self.new.names self.old.core self.new.core
             (T.told self.old.tape) (T.told self.new.tape) (C.ticks clock.old) (C.ticks clock.new)
             (flush_step_entry 1 self.new.reading mark room.new result ∷ []) }
-        ensures answer { AnswersFlush self.old.core mark result }
+        ensures answer { AnswersFlush self.old.core self.new.reading mark result }
         ensures copies { CopiesFlush self.old.core room.new result }
         ensures leads { FlushLeads self.old.core self.new.core 1 result }
         ensures current { self.new.reading ≡ reading_of self.new.core }

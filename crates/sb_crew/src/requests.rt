@@ -57,7 +57,7 @@ impl<T: Tape> Alone<T> {
     ghost use Rattle.sb_world.specs.Told.{Gains, CountsFaults};
     ghost use Rattle.sb_history.specs.Contents.{is_zeros};
     ghost use Rattle.sb_history.specs.Requests.{meta_of, put_call};
-    ghost use Rattle.sb_core.specs.Represents.{geometry_of, reading_of};
+    ghost use Rattle.sb_core.specs.Represents.{geometry_of, settings_of, reading_of};
     ghost use Rattle.sb_core.specs.Progress.{IsCloser};
     ghost use Rattle.sb_core.specs.Steps.{HasGet, HasPut};
     ghost use Rattle.sb_crew.specs.Names.{name_of};
@@ -76,6 +76,7 @@ impl<T: Tape> Alone<T> {
         requires job { HasGet self.old.core 1 job }
         requires current { self.old.reading ≡ reading_of self.old.core }
         requires room { length room.old ≡ (geometry_of self.old.core).block_size }
+        requires unwindowed { (settings_of self.old.core).md5_size ≡ 0 }
         ensures did { FetchDoes (Runs self.old.names self.new.names self.old.core self.new.core
             (T.told self.old.tape) (T.told self.new.tape) (C.ticks clock.old) (C.ticks clock.new))
             (Gains (L.log link.old) (L.log link.new)) (CountsFaults (L.faults link.old) (L.faults link.new))
@@ -102,6 +103,7 @@ impl<T: Tape> Alone<T> {
         requires asked { IsAsked got job.verify }
         requires current { self.old.reading ≡ reading_of self.old.core }
         requires room { length room.now ≡ (geometry_of self.old.core).block_size }
+        requires unwindowed { (settings_of self.old.core).md5_size ≡ 0 }
         ensures did { AnswerDoes (Runs self.old.names self.new.names self.old.core self.new.core
             (T.told self.old.tape) (T.told self.new.tape) (C.ticks clock.old) (C.ticks clock.new))
             job.block job.verify got room.now result }
@@ -137,6 +139,7 @@ impl<T: Tape> Alone<T> {
         requires zeros { job.zeros ≡ is_zeros room.now }
         requires current { self.old.reading ≡ reading_of self.old.core }
         requires room { length room.now ≡ (geometry_of self.old.core).block_size }
+        requires unwindowed { (settings_of self.old.core).md5_size ≡ 0 }
         ensures did { StoreDoes (Runs self.old.names self.new.names self.old.core self.new.core
             (T.told self.old.tape) (T.told self.new.tape) (C.ticks clock.old) (C.ticks clock.new))
             (Gains (L.log link.old) (L.log link.new)) (CountsFaults (L.faults link.old) (L.faults link.new))

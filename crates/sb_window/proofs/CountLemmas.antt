@@ -12,10 +12,10 @@ use Rattle.sb_window.specs.Events.{last_put_of, count, PutsFit}
 use Rattle.sb_window.proofs.RowLemmas.{to_true, filter_short, sorted_head, sorted_tail, absent_below}
 
 -- the rows of the first n blocks
-abbrev first_rows : ℕ → List (ℕ × LastPut) → List (ℕ × LastPut)
+abbrev pub first_rows : ℕ → List (ℕ × LastPut) → List (ℕ × LastPut)
 first_rows n es = filter (λ e. nat_lt e.0 n) es
 
-rows_next : (n : ℕ) (es : List (ℕ × LastPut)) → IsTrue (is_sorted nat_cmp es)
+pub rows_next : (n : ℕ) (es : List (ℕ × LastPut)) → IsTrue (is_sorted nat_cmp es)
     → length (first_rows (suc n) es) ≡ cond (is_some (find nat_cmp n es)) (1 + length (first_rows n es))
     (length (first_rows n es))
 rows_next n [] sorted = refl

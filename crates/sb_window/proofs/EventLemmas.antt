@@ -15,7 +15,8 @@ use Rattle.sb_window.specs.LastPuts.{LastPuts, end_of, is_end_kept, is_kept, if_
 use Rattle.sb_window.specs.declared.window.PutWhen.TheVariants.{Now, At}
 use Rattle.sb_window.specs.Windows.{WindowState, when_by, when_after, when_full, is_open, expected_by, expected_after}
 use Rattle.sb_window.specs.Events.{PutEvent, End, end_put, last_put_of, NewRepresents, BeginRepresents, EndRepresents}
-use Rattle.sb_window.specs.Events.{PurgeRepresents, ExpectsTheLastPut, IsOver, IsSpaced, PutsAreSpaced, LiesAhead}
+use Rattle.sb_window.specs.Events.{PurgeRepresents, ExpectsTheLastPut, ExpectationStays, IsOver, IsSpaced}
+use Rattle.sb_window.specs.Events.{PutsAreSpaced, LiesAhead}
 use Rattle.sb_window.specs.Events.{WaitsLieAhead}
 use Rattle.sb_window.proofs.KeptLemmas.{kept_earlier}
 use Rattle.sb_window.proofs.WindowLemmas.{get_kept, entries_kept}
@@ -68,11 +69,11 @@ purge_represents window past before le stands = record {
       (get_kept window.md5_time before block window.puts) (stands.own block);
 }
 
-same_key : (b block : ℕ) → eq_by_cmp nat_cmp b block ≡ eqb block b
+pub same_key : (b block : ℕ) → eq_by_cmp nat_cmp b block ≡ eqb block b
 same_key b block = grind (arith, nat_tests)
 
 -- what is found after a put was set, beside a history's last puts after the same
-at_key : (puts : LastPuts) (block b : ℕ) (put : LastPut) (last : Option LastPut)
+pub at_key : (puts : LastPuts) (block b : ℕ) (put : LastPut) (last : Option LastPut)
     (P : Option LastPut → Option LastPut → Type 0) → P (Some put) (Some put) → P (get puts b) last
     → P (get (insert puts block put) b) (cond (eqb block b) (Some put) last)
 at_key puts block b put last P here there =
@@ -162,6 +163,32 @@ expects_the_last_put window past block now le stands =
     ∙ ap (expected_by window.md5_time now) (stands.kept block now le)
     ∙ kept_expected window.md5_time now (last_put_of past block)
 
+-- what is expected later was expected before
+stays_by : (time now later : ℕ) (expect : Expect) (ending : Ending) → now ≤ later → (ok kept : Bool)
+    → is_end_kept time later (Some ending.reading) ≡ kept
+    → (cond (ok && kept) (Some expect) None ≡ None)
+    ⊎ (cond (ok && kept) (Some expect) None
+    ≡ cond (ok && is_end_kept time now (Some ending.reading)) (Some expect) None)
+stays_by time now later expect ending le false kept is = inl refl
+stays_by time now later expect ending le true false is = inl refl
+stays_by time now later expect ending le true true is =
+    inr (rw (kept_before time now later (Some ending.reading) le is) refl)
+
+stays_after : (time now later : ℕ) (digest : List ℕ) (ending : Option Ending) → now ≤ later
+    → (expected_after time later digest ending ≡ None)
+    ⊎ (expected_after time later digest ending ≡ expected_after time now digest ending)
+stays_after time now later digest None le = inl refl
+stays_after time now later digest (Some ending) le =
+    stays_by time now later (record { digest = digest; since = ending.reading }) ending le ending.ok
+    (is_end_kept time later (Some ending.reading)) refl
+
+pub expectation_stays : ExpectationStays
+expectation_stays window block now later le = by (get window.puts block) where
+  by : (held : Option LastPut) → (expected_by window.md5_time later held ≡ None)
+      ⊎ (expected_by window.md5_time later held ≡ expected_by window.md5_time now held)
+  by None = inl refl
+  by (Some put) = stays_after window.md5_time now later put.digest put.ending le
+
 spaced_end : (window : WindowState) (now : ℕ) (ending : Option Ending) → when_after window now ending ≡ Now
     → IsOver window.min_write_delay now ending
 spaced_end window now None ready = cc
@@ -203,7 +230,7 @@ puts_are_spaced window past block now on le long stands ready =
     (stands.own block) (rw off at ready)
 
 -- the earliest end of those that are kept is kept
-kept_earliest : (time now : ℕ) (es : List (ℕ × LastPut))
+pub kept_earliest : (time now : ℕ) (es : List (ℕ × LastPut))
     → is_end_kept time now (earliest_end (filter (λ e. is_kept time now e.1) es)) ≡ true
 kept_earliest time now [] = refl
 kept_earliest time now (e ∷ es) =

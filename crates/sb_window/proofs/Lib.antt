@@ -4,3 +4,4 @@ pub mod WindowLemmas
 pub mod TableLemmas
 pub mod EventLemmas
 pub mod CountLemmas
+pub mod WaitLemmas

@@ -62,6 +62,12 @@ ExpectsTheLastPut =
     (window : WindowState) (past : List PutEvent) (block now : ℕ) → window.reading ≤ now → Represents window past
     → expected window block now ≡ expected_by window.md5_time now (last_put_of past block)
 
+-- what a GET has to show stays until that put is past its time, if nothing else happens
+abbrev pub ExpectationStays : Type 0
+ExpectationStays =
+    (window : WindowState) (block now later : ℕ) → now ≤ later
+    → (expected window block later ≡ None) ⊎ (expected window block later ≡ expected window block now)
+
 -- the spacing since this end is over
 abbrev pub IsOver : ℕ → ℕ → Option Ending → Type 0
 IsOver delay now None = ⊥

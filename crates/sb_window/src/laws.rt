@@ -6,10 +6,12 @@ ghost use Rattle.sb_window.specs.Events.{
   EndRepresents,
   PurgeRepresents,
   ExpectsTheLastPut,
+  ExpectationStays,
   PutsAreSpaced,
   PutsFit,
   WaitsLieAhead,
 };
+ghost use Rattle.sb_window.specs.Waits.{WaitsEnd};
 
 /// A new window goes with no event.
 pub fn new_represents()
@@ -36,6 +38,11 @@ pub fn expects_the_last_put()
     ensures { ExpectsTheLastPut }
 {}
 
+/// What a GET has to show stays until it is past its time, if nothing else happens.
+pub fn expectation_stays()
+    ensures { ExpectationStays }
+{}
+
 /// A put that may begin is spaced from the end of the last one of its block, ok or not.
 pub fn puts_are_spaced()
     ensures { PutsAreSpaced }
@@ -49,4 +56,9 @@ pub fn puts_fit()
 /// A put that may not begin yet is to be tried again at a later reading.
 pub fn waits_lie_ahead()
     ensures { WaitsLieAhead }
+{}
+
+/// Where no put is open, a put that may not begin yet waits for a reading alone, from which on it may begin.
+pub fn waits_end()
+    ensures { WaitsEnd }
 {}

@@ -18,8 +18,8 @@ mod window;
 
 pub use last_put::{Ending, LastPut};
 pub use laws::{
-    begin_represents, end_represents, expects_the_last_put, new_represents, purge_represents,
-    puts_are_spaced, puts_fit, waits_lie_ahead,
+    begin_represents, end_represents, expectation_stays, expects_the_last_put, new_represents,
+    purge_represents, puts_are_spaced, puts_fit, waits_end, waits_lie_ahead,
 };
 pub use window::{PutWhen, Window};
 

@@ -1,6 +1,7 @@
 use Rattle.std.proofs.Common.{◌∙◌, List, [], ◌∷◌, refl, sym, ap, arith}
 use Rattle.std.proofs.lemmas.Result.{err_from_is_err_and}
 use Rattle.sb_base.specs.declared.geometry.Geometry.{Geometry}
+use Rattle.sb_base.specs.declared.settings.Settings.{Settings}
 use Rattle.sb_base.specs.declared.entry.EntryKind.TheVariants as kind
 use Rattle.sb_core.specs.Steps.{flush_step_entry}
 use Rattle.sb_crew.specs.Outcomes.{Outcome, FlushEnded}
@@ -15,6 +16,8 @@ turns-init g c = record {
     current = c.begin_flush-mark.ensures.current;
     whole_room = c.as_mut_slice-room.ensures.len ∙ c.requires.ready.whole_room
         ∙ ap (λ (geometry : Geometry). geometry.block_size) (sym c.begin_flush-mark.ensures.runs.base.geometry);
+    unwindowed = ap (λ (settings : Settings). settings.md5_size) c.begin_flush-mark.ensures.runs.base.settings
+        ∙ c.requires.ready.unwindowed;
   };
 }
 

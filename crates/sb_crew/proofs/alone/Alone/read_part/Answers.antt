@@ -1,5 +1,6 @@
 use Rattle.std.proofs.Common.{◌∙◌, [], refl, sym, ap, subst, arith, inl}
 use Rattle.sb_base.specs.declared.geometry.Geometry.{Geometry}
+use Rattle.sb_base.specs.declared.settings.Settings.{Settings}
 use Rattle.sb_base.specs.declared.entry.EntryKind.TheVariants as kind
 use Rattle.sb_base.specs.Ranges.{IsPart}
 use Rattle.sb_core.specs.Steps.{read_entry}
@@ -23,6 +24,7 @@ turns-init g c = record {
     idle = c.requires.ready.idle;
     current = c.requires.ready.current;
     whole_room = c.as_mut_slice-room.ensures.len ∙ c.requires.ready.whole_room;
+    unwindowed = c.requires.ready.unwindowed;
   };
   part = c.requires.part;
   out = c.requires.out;
@@ -54,6 +56,8 @@ turns-preserved-in-Dropped g c =
         current = c.ask_read.ensures.current;
         whole_room = c.ask_read.auto.room ∙ c.turns.invariant.ready.whole_room
             ∙ ap (λ (geometry : Geometry). geometry.block_size) (sym c.ask_read.ensures.runs.base.geometry);
+        unwindowed = ap (λ (settings : Settings). settings.md5_size) c.ask_read.ensures.runs.base.settings
+            ∙ c.turns.invariant.ready.unwindowed;
       };
       part = subst (λ (geometry : Geometry). IsPart geometry c.args.part)
           (sym (so_far.done.runs.base.geometry
