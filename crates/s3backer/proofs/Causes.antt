@@ -7,6 +7,7 @@ use Rattle.std.proofs.Math.Nat.{min-le_left, min-le_right, le_trans}
 use Rattle.sb_base.specs.declared.geometry.Geometry.{Geometry}
 use Rattle.sb_base.specs.declared.entry.Entry.{Entry}
 use Rattle.sb_world.specs.Told.{Rose}
+use Rattle.sb_world.specs.declared.clock.Tick.{Tick}
 use Rattle.sb_world.specs.declared.link.Call.{Call}
 use Rattle.sb_world.specs.declared.link.LinkFault.{LinkFault}
 use Rattle.sb_nbd.specs.declared.wanted.Wanted.{Wanted}
@@ -47,11 +48,12 @@ quiet_has_none before now calls quiet counts = by counts.risen where
   by (inr high) = absurd (quiet (le_trans (min-le_right (before + 1) (2 ^ 64 - 1)) high))
 
 -- a failed call is one
-cause_fails : (status : ℕ) (entries : List Entry) (calls : List Call) → HasCause (StoreFault status) entries calls
+cause_fails : (status : ℕ) (entries : List Entry) (calls : List Call) (ticks : List Tick)
+    → HasCause (StoreFault status) entries calls ticks
     → failures calls ≡ 0 → ⊥
-cause_fails status [] calls cause none = cause
-cause_fails status (entry ∷ entries) [] cause none = cause
-cause_fails status (entry ∷ entries) (asked ∷ calls) cause none =
+cause_fails status [] calls ticks cause none = cause
+cause_fails status (entry ∷ entries) [] ticks cause none = cause
+cause_fails status (entry ∷ entries) (asked ∷ calls) ticks cause none =
     let P : Option LinkFault → Type 0 = λ fault. (if is_failure fault then 1 else 0) + failures calls ≡ 0 in
     let one : 1 + failures calls ≡ 0 = subst P cause.1 none in
     omega (arith, one)
@@ -95,29 +97,31 @@ none_is_other : 0 ≢ EIO
 none_is_other is = absurd (omega (arith, is))
 
 -- the reply to a request none of whose calls failed
-number_otherwise : (fault : CallFault) (goal : List Outcome) (entries : List Entry) (calls : List Call) (error : ℕ)
-    → Stops goal entries calls fault → error ≡ error_of fault → failures calls ≡ 0 → error ≢ EIO
-number_otherwise (StoreFault status) goal entries calls error stops is none =
-    absurd (cause_fails status entries calls stops.cause none)
-number_otherwise Memory goal entries calls error stops is none =
+number_otherwise : (fault : CallFault) (goal : List Outcome) (entries : List Entry) (calls : List Call)
+    (ticks : List Tick) (error : ℕ) → Stops goal entries calls ticks fault
+    → error ≡ error_of fault → failures calls ≡ 0 → error ≢ EIO
+number_otherwise (StoreFault status) goal entries calls ticks error stops is none =
+    absurd (cause_fails status entries calls ticks stops.cause none)
+number_otherwise Memory goal entries calls ticks error stops is none =
     subst (λ (n : ℕ). n ≢ EIO) (sym is) memory_is_other
 
-answer_otherwise : (goal : List Outcome) (bytes : List ℕ) (entries : List Entry) (calls : List Call) (error : ℕ)
-    (body : List ℕ) → failures calls ≡ 0 → IsAnswer goal bytes entries calls error body → error ≢ EIO
-answer_otherwise goal bytes entries calls error body none (inl done) = subst (λ (n : ℕ). n ≢ EIO)
+answer_otherwise : (goal : List Outcome) (bytes : List ℕ) (entries : List Entry) (calls : List Call) (ticks : List Tick)
+    (error : ℕ) (body : List ℕ) → failures calls ≡ 0 → IsAnswer goal bytes entries calls ticks error body → error ≢ EIO
+answer_otherwise goal bytes entries calls ticks error body none (inl done) = subst (λ (n : ℕ). n ≢ EIO)
     (sym done.no_error) none_is_other
-answer_otherwise goal bytes entries calls error body none (inr failed) =
-    number_otherwise failed.fault goal entries calls error failed.stops failed.number none
+answer_otherwise goal bytes entries calls ticks error body none (inr failed) =
+    number_otherwise failed.fault goal entries calls ticks error failed.stops failed.number none
 
 reply_otherwise : (refused : Option ℕ) → IsOther refused
     → (geometry : Geometry) (r : Request) (error : ℕ) (body : List ℕ)
-    (entries : List Entry) (calls : List Call) → failures calls ≡ 0
-    → AnswersBy refused geometry r error body entries calls
+    (entries : List Entry) (calls : List Call) (ticks : List Tick) → failures calls ≡ 0
+    → AnswersBy refused geometry r error body entries calls ticks
     → error ≢ EIO
-reply_otherwise (Some code) other geometry r error body entries calls none answer =
+reply_otherwise (Some code) other geometry r error body entries calls ticks none answer =
     subst (λ (n : ℕ). n ≢ EIO) (sym answer.number) other.code
-reply_otherwise None other geometry r error body entries calls none answer =
-    answer_otherwise (goal_of geometry r answer.0) (body_of r.wanted entries) entries calls error body none answer.1
+reply_otherwise None other geometry r error body entries calls ticks none answer =
+    answer_otherwise (goal_of geometry r answer.0) (body_of r.wanted entries) entries calls ticks error body none
+    answer.1
 
 replies_otherwise : (geometry : Geometry) (xs : List Exchange) → failures (calls_of xs) ≡ 0 → IsTranscript geometry xs
     → AllByRecursion (λ x. x.error ≢ EIO) xs
@@ -127,14 +131,14 @@ replies_otherwise geometry (x ∷ xs) none answered =
     (sym (failures_join x.calls (calls_of xs)) ∙ none) in (
       reply_otherwise (refusal geometry x.request.wanted)
           (refused_otherwise geometry x.request.wanted) geometry x.request
-          x.error x.body x.entries x.calls parts.0 answered.0.answer,
+          x.error x.body x.entries x.calls x.ticks parts.0 answered.0.answer,
       replies_otherwise geometry xs parts.1 answered.1,
     )
 
 -- without a fault of the store no reply tells one
 pub none_failed : {geometry : Geometry} {transmission : ℕ} {before now held_before held_now : Option (List ℕ)}
-    {ended : SessionEnd} {entries : List Entry} {calls : List Call} {Unserved : Type 0}
-    (course : Unserved ⊎ Served geometry transmission before now held_before held_now ended entries calls)
+    {ended : SessionEnd} {entries : List Entry} {calls : List Call} {ticks : List Tick} {Unserved : Type 0}
+    (course : Unserved ⊎ Served geometry transmission before now held_before held_now ended entries calls ticks)
     (faults faults' : ℕ) (flush_calls : List Call) → (Rose faults faults' → ⊥)
     → Counts faults faults' (flush_calls ++ calls)
     → NoneFailed course
@@ -145,22 +149,22 @@ none_failed {geometry} {calls = calls} (inr served) faults faults' flush_calls q
     replies_otherwise geometry served.transcript (ap failures (sym served.calls_are) ∙ parts.1) served.answered
 
 -- a flush none of whose calls failed ended well, or lacked memory
-flushed_well : (flushed : Result Unit CallFault) (entries : List Entry) (calls : List Call)
-    → FlushEnds flushed entries calls
+flushed_well : (flushed : Result Unit CallFault) (entries : List Entry) (calls : List Call) (ticks : List Tick)
+    → FlushEnds flushed entries calls ticks
     → failures calls ≡ 0 → (flush_status flushed ≡ 0) ⊎ (flush_status flushed ≡ 12)
-flushed_well (Ok done) entries calls ends none = inl refl
-flushed_well (Err (StoreFault status)) entries calls ends none = absurd
-    (cause_fails status entries calls ends.1.cause none)
-flushed_well (Err Memory) entries calls ends none = inr refl
+flushed_well (Ok done) entries calls ticks ends none = inl refl
+flushed_well (Err (StoreFault status)) entries calls ticks ends none = absurd
+    (cause_fails status entries calls ticks ends.1.cause none)
+flushed_well (Err Memory) entries calls ticks ends none = inr refl
 
 -- without any fault, and of an input that isn't refused and isn't too long, a run ends well or lacks memory
 pub ended_well : (ended : SessionEnd) (flushed : Result Unit CallFault) (entries : List Entry)
-    (calls flush_calls : List Call)
-    (faults faults' : ℕ) {Read Written : Type 0} → FlushEnds flushed entries flush_calls
+    (calls flush_calls : List Call) (flush_ticks : List Tick)
+    (faults faults' : ℕ) {Read Written : Type 0} → FlushEnds flushed entries flush_calls flush_ticks
     → (Rose faults faults' → ⊥) → Counts faults faults' (flush_calls ++ calls)
     → (ended ≡ end.ReadFault → Read) → (ended ≡ end.WriteFault → Written) → (Read → ⊥) → (Written → ⊥)
     → ended ≢ end.Refused → ended ≢ end.Spent → (run_status ended flushed ≡ 0) ⊎ (run_status ended flushed ≡ 12)
-ended_well ended flushed entries calls flush_calls faults faults' {Read = Read}
+ended_well ended flushed entries calls flush_calls flush_ticks faults faults' {Read = Read}
     {Written = Written} ends quiet counts at_read
     at_write read written refused spent =
     by ended at_read at_write refused spent where
@@ -171,8 +175,10 @@ ended_well ended flushed entries calls flush_calls faults faults' {Read = Read}
       by : (e : SessionEnd) → (e ≡ end.ReadFault → Read) → (e ≡ end.WriteFault → Written) → e ≢ end.Refused
           → e ≢ end.Spent
           → (run_status e flushed ≡ 0) ⊎ (run_status e flushed ≡ 12)
-      by end.Disconnected at_read at_write refused spent = flushed_well flushed entries flush_calls ends none
-      by end.Ended at_read at_write refused spent = flushed_well flushed entries flush_calls ends none
+      by end.Disconnected at_read at_write refused spent = flushed_well flushed entries flush_calls
+          flush_ticks ends none
+      by end.Ended at_read at_write refused spent = flushed_well flushed entries flush_calls
+          flush_ticks ends none
       by end.Refused at_read at_write refused spent = absurd (refused refl)
       by end.ReadFault at_read at_write refused spent = absurd (read (at_read refl))
       by end.WriteFault at_read at_write refused spent = absurd (written (at_write refl))

@@ -34,12 +34,12 @@ use Rattle.s3backer.specs.Headline.{IsHistory, IsSaved, ServesSession, run_statu
 -- what was done to a fresh core under the plan's names is a disk's history
 history_of : (plan : PlanParts) (names names' : Naming) (core core' : Core) (tape tape' : Option (List Entry))
     (log log' : Option (List Call)) (faults faults' : ℕ) (clock clock' : Option (List Tick)) (entries : List Entry)
-    (calls : List Call) → UnwindowedIsLegal → UnwindowedFlushes → UnwindowedSurvivesCrash → IsFresh plan.geometry core
-    → names ≡ naming_of plan
-    → Did names names' core core' tape tape' log log' faults faults' clock clock' entries calls
-    → IsHistory plan tape tape' log log' clock clock' entries calls
-history_of plan names names' core core' tape tape' log log' faults faults' clock clock' entries calls legal flushes
-    survives fresh named did =
+    (calls : List Call) (ticks : List Tick) → UnwindowedIsLegal → UnwindowedFlushes
+    → UnwindowedSurvivesCrash → IsFresh plan.geometry core → names ≡ naming_of plan
+    → Did names names' core core' tape tape' log log' faults faults' clock clock' entries calls ticks
+    → IsHistory plan tape tape' log log' clock clock' entries calls ticks
+history_of plan names names' core core' tape tape' log log' faults faults' clock clock' entries calls ticks legal
+    flushes survives fresh named did =
     let after = subst (λ (past : List Entry). Represents core' past) (append-nil entries)
     (did.runs.history [] tt fresh.represents) in
     let shape : core'.geometry ≡ plan.geometry = did.runs.base.geometry ∙ fresh.geometry_is in
@@ -53,11 +53,10 @@ history_of plan names names' core core' tape tape' log log' faults faults' clock
       tape = did.runs.told;
       asked = did.asked.gained;
       requests = subst (λ (n : Naming). RequestLog (name_of n) (Some n.meta) entries calls) named did.requests;
-      readings = did.runs.ticks;
       clock = did.runs.readings;
-      trace = subst (λ (s : Settings). ClockTrace plan.geometry s only_caller [] entries None did.runs.ticks)
+      trace = subst (λ (s : Settings). ClockTrace plan.geometry s only_caller [] entries None ticks)
           fresh.settings_is
-          (subst (λ (g : Geometry). ClockTrace g core.settings only_caller [] entries None did.runs.ticks)
+          (subst (λ (g : Geometry). ClockTrace g core.settings only_caller [] entries None ticks)
           fresh.geometry_is (did.runs.trace [] tt fresh.represents));
       rules = rules;
       policy = policy;
@@ -92,15 +91,15 @@ history_of plan names names' core core' tape tape' log log' faults faults' clock
 
 -- a flush that ended well, and the entries before it
 saved_by : (flushed : Result Unit CallFault) (flush session : List Entry) (calls : List Call)
-    → FlushEnds flushed flush calls
+    (ticks : List Tick) → FlushEnds flushed flush calls ticks
     → flushed ≡ Ok tt → IsSaved (flush ++ session)
-saved_by (Ok done) flush session calls ends is = (
+saved_by (Ok done) flush session calls ticks ends is = (
   ends.0,
   outcomes_of session,
   outcomes_join flush session
       ∙ ap (λ (os : List Outcome). os ++ outcomes_of session) ends.1,
 )
-saved_by (Err fault) flush session calls ends is = absurd (cc)
+saved_by (Err fault) flush session calls ticks ends is = absurd (cc)
 
 -- status 0 comes only with a flush that ended well
 flushed_at_zero : (ended : SessionEnd) (flushed : Result Unit CallFault) → run_status ended flushed ≡ 0
@@ -144,10 +143,13 @@ session_serves log link_faults ticks left read_faults held write_faults plan nam
     record {
       entries = told.entries;
       calls = told.calls;
+      session_ticks = told.ticks;
       flush_entries = flush.entries;
       flush_calls = flush.calls;
+      flush_ticks = flush.ticks;
       history = history_of plan names names' core core' tape tape' (log link) (log link') (link_faults link)
           (link_faults link') (ticks clock) (ticks clock') (flush.entries ++ told.entries) (flush.calls ++ told.calls)
+          (flush.ticks ++ told.ticks)
           legal flushes survives fresh named did;
       ended = ended;
       course = course;
@@ -159,13 +161,13 @@ session_serves log link_faults ticks left read_faults held write_faults plan nam
       flush_asks = flush.asks;
       status_is = status_is;
       complains = complains;
-      saved = λ zero. saved_by flushed flush.entries told.entries flush.calls flush.ends
+      saved = λ zero. saved_by flushed flush.entries told.entries flush.calls flush.ticks flush.ends
           (flushed_at_zero ended flushed (sym status_is ∙ zero));
       no_failed_reply = λ quiet. none_failed course (link_faults link)
           (link_faults link') flush.calls quiet did.asked.counted;
       ends_well = λ quiet read written refused spent.
           subst (λ (n : ℕ). (n ≡ 0) ⊎ (n ≡ 12)) (sym status_is)
-          (ended_well ended flushed flush.entries told.calls flush.calls (link_faults link)
+          (ended_well ended flushed flush.entries told.calls flush.calls flush.ticks (link_faults link)
           (link_faults link') flush.ends quiet
           did.asked.counted read_cause.rises write_cause.rises read written refused spent);
     }

@@ -1,5 +1,6 @@
 -- Words that the readers refuse are of no given values.
-use Rattle.std.proofs.Common.{ℕ, ◌≡◌, List, [], ◌∷◌, ◌++◌, Option, Some, None, Bool, true, false, Result, Ok, Err, codes}
+use Rattle.std.proofs.Common.{ℕ, ◌≡◌, List, [], ◌∷◌, ◌++◌, Option, Some, None, Bool, true, false, Result, Ok, Err}
+use Rattle.std.proofs.Common.{codes}
 use Rattle.std.proofs.Common.{sym, ◌∙◌, ap, arith, slice_index_or, if◌then◌else◌, nat_eq, length}
 use Rattle.std.specs.List.{list_any}
 use Rattle.s3backer.specs.Words.{Given, option_words, flag_words, is_option, AreWordsOf, IsPlan, plan_of}
@@ -121,7 +122,8 @@ has_form given refused =
     (nat_eq (length given.directory) 0)) refused
 
 -- what values answer, the words answer
-pub planned_words : (words : List (List ℕ)) (given : Given) (outcome : Result PlanParts PlanFault) → AreWordsOf words given
+pub planned_words : (words : List (List ℕ)) (given : Given) (outcome : Result PlanParts PlanFault)
+    → AreWordsOf words given
     → Answers (plan_of given) outcome → IsPlan words outcome
 planned_words words given (Ok plan) form answers = record { given = given; form = form; plan_is = answers }
 planned_words words given (Err (fault.Usage usage.NotBuilt)) form answers = absurd (has_form given answers)

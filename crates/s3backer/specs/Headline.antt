@@ -96,12 +96,11 @@ ComplainsOf (Some line) held held' faults faults' = Complains held held' faults 
 -- that shows the latest versions, that each read is that of a register, that each flush that is done has saved what was
 -- written before it, and what a crash leaves at any moment
 pub record IsHistory (plan : PlanParts) (told told' : Option (List Entry)) (log log' : Option (List Call))
-    (ticks ticks' : Option (List Tick)) (entries : List Entry) (calls : List Call) : Type 0 where
+    (ticks ticks' : Option (List Tick)) (entries : List Entry) (calls : List Call) (readings : List Tick) : Type 0 where
   pub of_pass : IsOfPass 1 entries
   pub tape : Gains told told' entries
   pub asked : Gains log log' calls
   pub requests : RequestLog (name_of (naming_of plan)) (Some (sizes_of plan.geometry)) entries calls
-  pub readings : List Tick
   pub clock : Gains ticks ticks' readings
   pub trace : ClockTrace plan.geometry SETTINGS only_caller [] entries None readings
   pub rules : FollowsAccessRules plan.geometry SETTINGS nothing_found entries
@@ -115,8 +114,8 @@ pub record IsHistory (plan : PlanParts) (told told' : Option (List Entry)) (log 
 
 -- no reply of a session has the error of a store that failed
 abbrev pub NoneFailed : {geometry : Geometry} {transmission : ℕ} {before now held_before held_now : Option (List ℕ)}
-    {ended : SessionEnd} {entries : List Entry} {calls : List Call} {Unserved : Type 0}
-    → Unserved ⊎ Served geometry transmission before now held_before held_now ended entries calls → Type 0
+    {ended : SessionEnd} {entries : List Entry} {calls : List Call} {session_ticks : List Tick} {Unserved : Type 0}
+    → Unserved ⊎ Served geometry transmission before now held_before held_now ended entries calls session_ticks → Type 0
 NoneFailed (inl unserved) = Unit {0}
 NoneFailed (inr served) = AllByRecursion (λ x. x.error ≢ EIO) served.transcript
 
@@ -131,21 +130,23 @@ module _ {L C R S : Type 0} (log : L → Option (List Call)) (link_faults : L �
       (output output' errors errors' : S) (told told' : Option (List Entry)) (status : ℕ) : Type 0 where
     pub entries : List Entry
     pub calls : List Call
+    pub session_ticks : List Tick
     pub flush_entries : List Entry
     pub flush_calls : List Call
+    pub flush_ticks : List Tick
     pub history : IsHistory plan told told' (log link) (log link') (ticks clock) (ticks clock')
-        (flush_entries ++ entries) (flush_calls ++ calls)
+        (flush_entries ++ entries) (flush_calls ++ calls) (flush_ticks ++ session_ticks)
     pub ended : SessionEnd
     pub course :
         (Unopened plan.geometry TRANSMISSION_FLAGS (left input) (left input') (held output) (held output') ended
-        × (entries ≡ []) × (calls ≡ []))
+        × (entries ≡ []) × (calls ≡ []) × (session_ticks ≡ []))
         ⊎ Served plan.geometry TRANSMISSION_FLAGS (left input) (left input') (held output) (held output') ended
-        entries calls
+        entries calls session_ticks
     pub read_cause : ended ≡ end.ReadFault → Rose (read_faults input) (read_faults input')
     pub write_cause : ended ≡ end.WriteFault → Rose (write_faults output) (write_faults output')
     pub link_counts : Counts (link_faults link) (link_faults link') (flush_calls ++ calls)
     pub flushed : Result Unit CallFault
-    pub flushes : FlushEnds flushed flush_entries flush_calls
+    pub flushes : FlushEnds flushed flush_entries flush_calls flush_ticks
     pub flush_asks : AsksOnly [] flush_entries
     pub status_is : status ≡ run_status ended flushed
     pub complains : ComplainsOf (run_line ended flushed)

@@ -17,8 +17,8 @@ use std::str;
 /// A file that is open.
 type HostFile = <HostRuntime as Files>::File;
 
-/// A directory of the file system. What was written is synced before the call answers: a file's bytes after a write, and
-/// the directory after a rename and after a remove.
+/// A directory of the file system. What was written is synced before the call answers: a file's bytes after a write,
+/// and the directory after a rename and after a remove.
 #[derive(Drop)]
 pub struct HostFolder {
     rt: HostRuntime,

@@ -3,8 +3,8 @@
 use sb_base::{Geometry, StorePlan};
 use std::marker::Model;
 
-/// A disk that is asked for: the store of its blocks, the names of their objects, and its size. It is seen with its prefix
-/// as bytes.
+/// A disk that is asked for: the store of its blocks, the names of their objects, and its size. It is seen with its
+/// prefix as bytes.
 #[derive(Drop)]
 pub struct Plan {
     pub store: StorePlan,

@@ -40,7 +40,8 @@ pub fn rehearse<L: Link + Drop>(
     ensures { IfOk result (λ done. RunEnds L.log L.faults ticks_of bytes_of faults_of bytes_of faults_of
         (map string_bytes words.now) 0 (world_faults done.world) (Some
         (record { links = link ∷ []; clock = clock; input = input; output = output; errors = errors })) true
-        done.world.last (Some []) (asks_of done.world) (Some []) (entries_of done.tape) (Some []) (said_of done.world) done.status) }
+        done.world.last (Some []) (asks_of done.world) (Some []) (entries_of done.tape)
+        (Some []) (said_of done.world) done.status) }
 {
     let mut links = Vec::new(alloc);
     links.push(link)?;

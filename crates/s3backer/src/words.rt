@@ -44,8 +44,8 @@ pub enum Usage {
     BadSize { name: Text, word: Text },
     /// No disk has this size.
     Geometry(GeometryFault),
-    /// The prefix is longer than 200 bytes, or has a byte that no name may have: one that isn't printable ASCII, or one of
-    /// `<`, `>`, `&`, `"` and `'`.
+    /// The prefix is longer than 200 bytes, or has a byte that no name may have: one that isn't printable ASCII, or one
+    /// of `<`, `>`, `&`, `"` and `'`.
     BadPrefix(Text),
     /// The prefix has a slash, and the store is a directory.
     PrefixSlash,
@@ -69,9 +69,9 @@ struct Values<'a> {
     directory: &'a str,
 }
 
-/// Reads the words `--stdio --test [--prefix=TEXT] [--blockHashPrefix] --size=SIZE DIR`. Other words are `NotBuilt`. Then the
-/// first fault is told, in this order: a size that doesn't read is `BadSize`, one that no disk has is `Geometry`, and then come
-/// `BadPrefix`, `PrefixSlash` and `BadBucket`.
+/// Reads the words `--stdio --test [--prefix=TEXT] [--blockHashPrefix] --size=SIZE DIR`. Other words are `NotBuilt`.
+/// Then the first fault is told, in this order: a size that doesn't read is `BadSize`, one that no disk has is
+/// `Geometry`, and then come `BadPrefix`, `PrefixSlash` and `BadBucket`.
 pub fn plan(alloc: Global, words: &[String]) -> Result<Plan, PlanFault>
     ensures plan { IsPlan (map string_bytes words.now) result }
     ensures sound { IfOk result (λ plan. IsSound plan.geometry) }
@@ -114,7 +114,8 @@ fn strip_word<'a>(words: &'a [String], word: &str) -> Option<&'a [String]>
 
 /// The value of an option, if it is the first word, and the words behind it.
 fn take_option<'a>(words: &'a [String], name: &str) -> (Option<&'a str>, &'a [String])
-    ensures { TakesOption (map string_bytes words.now) name.now (option_copied result.0) (map string_bytes result.1.now) }
+    ensures { TakesOption (map string_bytes words.now) name.now (option_copied result.0)
+        (map string_bytes result.1.now) }
 {
     match words {
         [first, rest @ ..] => match first.as_str().strip_prefix(name) {

@@ -3,6 +3,7 @@ use Rattle.std.proofs.Common.{ℕ, ◌≡◌, List, [], ◌∷◌, ◌++◌, ref
 use Rattle.std.specs.List.{AllByRecursion}
 use Rattle.sb_base.specs.declared.part.Part.{Part}
 use Rattle.sb_base.specs.declared.entry.Entry.{Entry}
+use Rattle.sb_world.specs.declared.clock.Tick.{Tick}
 use Rattle.sb_world.specs.declared.link.Call.{Call}
 use Rattle.sb_crew.specs.declared.calls.CallFault.{CallFault}
 use Rattle.sb_crew.specs.Outcomes.{outcomes_of, bytes_read, blocks_asked, outcome_of, bytes_of, asked_of, IsBlockOf}
@@ -43,8 +44,8 @@ asks_join parts xs ys first second =
     }
 
 -- the newest entry and call are those of the later run
-pub cause_stays : (fault : CallFault) (xs ys : List Entry) (us vs : List Call) → HasCause fault ys vs
-    → HasCause fault (ys ++ xs) (vs ++ us)
-cause_stays fault xs [] us vs cause = absurd cause
-cause_stays fault xs (y ∷ ys) us [] cause = absurd cause
-cause_stays fault xs (y ∷ ys) us (v ∷ vs) cause = cause
+pub cause_stays : (fault : CallFault) (xs ys : List Entry) (us vs : List Call) (ss ts : List Tick)
+    → HasCause fault ys vs ts → HasCause fault (ys ++ xs) (vs ++ us) (ts ++ ss)
+cause_stays fault xs [] us vs ss ts cause = absurd cause
+cause_stays fault xs (y ∷ ys) us [] ss ts cause = absurd cause
+cause_stays fault xs (y ∷ ys) us (v ∷ vs) ss ts cause = cause

@@ -33,7 +33,7 @@ use Rattle.sb_crew.specs.Answers.{shown_for, fault_for, EndsAs}
 use Rattle.sb_crew.specs.Outcomes as outcome
 use Rattle.sb_crew.specs.Outcomes.{Outcome, outcomes_of, outcome_of, bytes_read, bytes_of, asked_of, blocks_asked}
 use Rattle.sb_crew.specs.Outcomes.{IsBlockOf, AsksOnly, HasCause, Does, FlushBegun}
-use Rattle.sb_crew.specs.Runs.{any_past, HasBegun, Runs, RunsWhere, Did, DidWhere}
+use Rattle.sb_crew.specs.Runs.{any_past, HasBegun, Runs, RunsWhere, TickedWhere, Did, DidWhere}
 use Rattle.sb_crew.specs.Turns.{SoFar, FetchDoes, StoreDoes}
 use Rattle.sb_crew.specs.Joins.{asked_nothing, runs_join, did_join}
 use Rattle.sb_crew.proofs.OutcomeLemmas.{cause_stays}
@@ -67,11 +67,11 @@ event reading of = record { pass = 1; reading = reading; kind = of }
 
 -- the entry of an event is another one, which it is equal to
 runs_of : {Is : List Entry → Type 0} {names names' : Naming} {core core' : Core} {tape tape' : Option (List Entry)}
-    {clock clock' : Option (List Tick)} {entry other : Entry} → entry ≡ other
-    → RunsWhere Is names names' core core' tape tape' clock clock' (entry ∷ [])
-    → RunsWhere Is names names' core core' tape tape' clock clock' (other ∷ [])
-runs_of {Is} {names} {names'} {core} {core'} {tape} {tape'} {clock} {clock'} is runs =
-    subst (λ (e : Entry). RunsWhere Is names names' core core' tape tape' clock clock' (e ∷ [])) is runs
+    {clock clock' : Option (List Tick)} {entry other : Entry} {ticks : List Tick} → entry ≡ other
+    → RunsWhere Is names names' core core' tape tape' clock clock' (entry ∷ []) ticks
+    → RunsWhere Is names names' core core' tape tape' clock clock' (other ∷ []) ticks
+runs_of {Is} {names} {names'} {core} {core'} {tape} {tape'} {clock} {clock'} {ticks = ticks} is runs =
+    subst (λ (e : Entry). RunsWhere Is names names' core core' tape tape' clock clock' (e ∷ []) ticks) is runs
 
 -- the link's log says what the entry says
 replies_fit : (result : Result Got LinkFault) (bytes : List ℕ)
@@ -114,18 +114,19 @@ put_fault false name meta content fault = refl
 
 -- the newest entry is a failure, and the newest call has its fault
 get_failed : (name : List ℕ) (block : ℕ) (verify : Option (List ℕ)) (result : Result Got LinkFault) (bytes : List ℕ)
-    (later : ℕ) (taken : Bool) (fault : CallFault) (before : List Entry) → EndsAs {U = Unit {0}} result (Err fault)
+    (later : ℕ) (taken : Bool) (fault : CallFault) (before : List Entry) (ticks : List Tick)
+    → EndsAs {U = Unit {0}} result (Err fault)
     → HasCause fault (event later (kind.GetEnd block (shown_for result bytes) verify taken) ∷ before)
-    (call.Get name verify (get_reply result bytes) ∷ [])
-get_failed name block verify (Ok value) bytes later taken fault before ends = absurd ends
-get_failed name block verify (Err cause) bytes later taken fault before ends = (tt, same_fault cause fault ends)
+    (call.Get name verify (get_reply result bytes) ∷ []) ticks
+get_failed name block verify (Ok value) bytes later taken fault before ticks ends = absurd ends
+get_failed name block verify (Err cause) bytes later taken fault before ticks ends = (tt, same_fault cause fault ends)
 
 put_failed : (name : List ℕ) (block : ℕ) (meta : Option Meta) (content : List ℕ) (sent : Result Unit LinkFault)
-    (later : ℕ) (fault : CallFault) (before : List Entry) → EndsAs {U = Unit {0}} sent (Err fault)
+    (later : ℕ) (fault : CallFault) (before : List Entry) (ticks : List Tick) → EndsAs {U = Unit {0}} sent (Err fault)
     → HasCause fault (event later (kind.PutEnd block (is_ok sent)) ∷ before)
-    (put_call name meta content (fault_of sent) ∷ [])
-put_failed name block meta content (Ok value) later fault before ends = absurd ends
-put_failed name block meta content (Err cause) later fault before ends =
+    (put_call name meta content (fault_of sent) ∷ []) ticks
+put_failed name block meta content (Ok value) later fault before ticks ends = absurd ends
+put_failed name block meta content (Err cause) later fault before ticks ends =
     (refl, put_fault (is_zeros content) name meta content (Some cause) ∙ same_fault cause fault ends)
 
 -- the entries and the call of a GET
@@ -191,25 +192,26 @@ module _ {Then : List Entry → Type 0} {names1 names2 : Naming} {b c : Core} {t
   event_does : {log1 : Option (List Call)} {faults1 : ℕ} {entry : Entry} (reading : ℕ) (of : EntryKind)
       → entry ≡ event reading of
       → RequestLog (name_of names1) (Some names1.meta) (event reading of ∷ []) []
-      → RunsWhere Then names1 names2 b c tape1 tape2 clock1 clock2 (entry ∷ [])
+      → (runs : TickedWhere Then names1 names2 b c tape1 tape2 clock1 clock2 (entry ∷ []))
       → DidWhere Then names1 names2 b c tape1 tape2 log1 log1 faults1 faults1 clock1 clock2 (event reading of ∷ []) []
+      runs.ticks
   event_does {log1} {faults1} reading of is quiet runs =
-      record { runs = runs_of is runs; asked = asked_nothing log1 faults1; requests = quiet }
+      record { runs = runs_of is runs.ran; asked = asked_nothing log1 faults1; requests = quiet }
 
   get_does : {names3 : Naming} {d : Core} {tape3 : Option (List Entry)} {log1 log3 : Option (List Call)}
       {faults1 faults3 : ℕ} {clock3 : Option (List Tick)} {entry : Entry} {ended : Result Unit CallFault}
       (reading : ℕ) (job : GetJob) → entry ≡ event reading (kind.GetBegin job.block job.expect job.verify)
-      → RunsWhere Then names1 names2 b c tape1 tape2 clock1 clock2 (entry ∷ [])
+      → (runs : TickedWhere Then names1 names2 b c tape1 tape2 clock1 clock2 (entry ∷ []))
       → (fetched : FetchDoes (Runs names2 names3 c d tape2 tape3 clock2 clock3) (Gains log1 log3)
       (CountsFaults faults1 faults3) names2 job.block job.verify ended)
       → DidWhere Then names1 names3 b d tape1 tape3 log1 log3 faults1 faults3 clock1 clock3
       (get_entries reading job fetched.answer.reading fetched.got fetched.bytes fetched.answer.taken)
-      (get_calls names1 job fetched.got fetched.bytes)
+      (get_calls names1 job fetched.got fetched.bytes) (fetched.answer.ran.ticks ++ runs.ticks)
   get_does {log1 = log1} {log3 = log3} {faults1 = faults1} {faults3 = faults3} reading job is runs fetched = record {
-    runs = runs_join (λ past fits. tt) (runs_of is runs) fetched.answer.ran;
+    runs = runs_join (λ past fits. tt) (runs_of is runs.ran) fetched.answer.ran.ran;
     asked = record {
       gained = subst (λ (names : Naming). Gains log1 log3 (get_calls names job fetched.got fetched.bytes))
-          runs.same_names fetched.called;
+          runs.ran.same_names fetched.called;
       counted = counts_so faults1 faults3 fetched.got
           (call.Get (name_of names1 job.block) job.verify (get_reply fetched.got fetched.bytes))
           (get_fault (name_of names1 job.block) job.verify fetched.got fetched.bytes) fetched.counted;
@@ -221,18 +223,18 @@ module _ {Then : List Entry → Type 0} {names1 names2 : Naming} {b c : Core} {t
   put_does : {names3 : Naming} {d : Core} {tape3 : Option (List Entry)} {log1 log3 : Option (List Call)}
       {faults1 faults3 : ℕ} {clock3 : Option (List Tick)} {entry : Entry} {ended : Result Unit CallFault}
       (reading block : ℕ) (content : List ℕ) → entry ≡ event reading (kind.PutBegin block content)
-      → RunsWhere Then names1 names2 b c tape1 tape2 clock1 clock2 (entry ∷ [])
+      → (runs : TickedWhere Then names1 names2 b c tape1 tape2 clock1 clock2 (entry ∷ []))
       → (stored : StoreDoes (Runs names2 names3 c d tape2 tape3 clock2 clock3) (Gains log1 log3)
       (CountsFaults faults1 faults3) names2 block content ended)
       → DidWhere Then names1 names3 b d tape1 tape3 log1 log3 faults1 faults3 clock1 clock3
       (put_entries reading block content stored.reading stored.sent)
-      (put_calls names1 block content stored.sent)
+      (put_calls names1 block content stored.sent) (stored.ran.ticks ++ runs.ticks)
   put_does {log1 = log1} {log3 = log3} {faults1 = faults1} {faults3 = faults3} reading block content is runs
       stored = record {
-        runs = runs_join (λ past fits. tt) (runs_of is runs) stored.ran;
+        runs = runs_join (λ past fits. tt) (runs_of is runs.ran) stored.ran.ran;
         asked = record {
           gained = subst (λ (names : Naming). Gains log1 log3 (put_calls names block content stored.sent))
-              runs.same_names stored.called;
+              runs.ran.same_names stored.called;
           counted = counts_so faults1 faults3 stored.sent
               (put_call (name_of names1 block) (meta_of (Some names1.meta) block) content (fault_of stored.sent))
               (put_fault (is_zeros content) (name_of names1 block) (meta_of (Some names1.meta) block) content
@@ -246,10 +248,11 @@ module _ {Then : List Entry → Type 0} {met : List Outcome} {names names1 : Nam
     {tape tape1 : Option (List Entry)} {log log1 : Option (List Call)} {faults faults1 : ℕ}
     {clock clock1 : Option (List Tick)} {parts : List Part} where
   did_more : {names2 : Naming} {c : Core} {tape2 : Option (List Entry)} {log2 : Option (List Call)} {faults2 : ℕ}
-      {clock2 : Option (List Tick)} {ys : List Entry} {vs : List Call}
+      {clock2 : Option (List Tick)} {ys : List Entry} {vs : List Call} {ts : List Tick}
       (before : SoFar Then met names names1 a b tape tape1 log log1 faults faults1 clock clock1 parts)
-      → DidWhere Then names1 names2 b c tape1 tape2 log1 log2 faults1 faults2 clock1 clock2 ys vs
+      → DidWhere Then names1 names2 b c tape1 tape2 log1 log2 faults1 faults2 clock1 clock2 ys vs ts
       → Did names names2 a c tape tape2 log log2 faults faults2 clock clock2 (ys ++ before.entries) (vs ++ before.calls)
+      (ts ++ before.ticks)
   did_more before more = did_join (λ past fits. before.leads past) before.done more
 
   -- another block left the cache
@@ -257,11 +260,12 @@ module _ {Then : List Entry → Type 0} {met : List Outcome} {names names1 : Nam
       {entry : Entry}
       → Lasts Then → SoFar Then met names names1 a b tape tape1 log log1 faults faults1 clock clock1 parts
       → (reading dropped : ℕ) → entry ≡ event reading (kind.Dropped dropped)
-      → RunsWhere Then names1 names2 b c tape1 tape2 clock1 clock2 (entry ∷ [])
+      → TickedWhere Then names1 names2 b c tape1 tape2 clock1 clock2 (entry ∷ [])
       → SoFar Then met names names2 a c tape tape2 log log1 faults faults1 clock clock2 parts
   after_drop lasts before reading dropped is runs = record {
     entries = event reading (kind.Dropped dropped) ∷ before.entries;
     calls = before.calls;
+    ticks = runs.ticks ++ before.ticks;
     done = did_more before (event_does reading (kind.Dropped dropped) is refl runs);
     met_so = before.met_so;
     no_bytes = ap (λ bs. bs ++ []) before.no_bytes;
@@ -276,12 +280,13 @@ module _ {Then : List Entry → Type 0} {met : List Outcome} {names names1 : Nam
       → SoFar Then met names names1 a b tape tape1 log log1 faults faults1 clock clock1 parts
       → (reading : ℕ) (of : EntryKind) → entry ≡ event reading of
       → RequestLog (name_of names1) (Some names1.meta) (event reading of ∷ []) [] → asked_of of ≡ []
-      → RunsWhere Then names1 names2 b c tape1 tape2 clock1 clock2 (entry ∷ [])
+      → TickedWhere Then names1 names2 b c tape1 tape2 clock1 clock2 (entry ∷ [])
       → Does (Did names names2 a c tape tape2 log log1 faults faults1 clock clock2) parts
-      (λ entries calls. (outcomes_of entries ≡ outcome_of of ++ met) × (bytes_read entries ≡ bytes_of of))
+      (λ entries calls ticks. (outcomes_of entries ≡ outcome_of of ++ met) × (bytes_read entries ≡ bytes_of of))
   ends_with before reading of is quiet asks runs = record {
     entries = event reading of ∷ before.entries;
     calls = before.calls;
+    ticks = runs.ticks ++ before.ticks;
     done = did_more before (event_does reading of is quiet runs);
     ends = (ap (λ os. outcome_of of ++ os) before.met_so, ap (λ bs. bs ++ bytes_of of) before.no_bytes);
     asks = record {
@@ -297,7 +302,7 @@ module _ {Then : List Entry → Type 0} {met : List Outcome} {names names1 : Nam
       → Lasts Then → SoFar Then met names names1 a b tape tape1 log log1 faults faults1 clock clock1 parts
       → (reading : ℕ) (job : GetJob)
       → entry ≡ event reading (kind.GetBegin job.block job.expect job.verify) → IsBlockOf parts job.block
-      → RunsWhere Then names1 names2 b c tape1 tape2 clock1 clock2 (entry ∷ [])
+      → TickedWhere Then names1 names2 b c tape1 tape2 clock1 clock2 (entry ∷ [])
       → FetchDoes (Runs names2 names3 c d tape2 tape3 clock2 clock3) (Gains log1 log3)
       (CountsFaults faults1 faults3) names2 job.block job.verify ended
       → SoFar Then met names names3 a d tape tape3 log log3 faults faults3 clock clock3 parts
@@ -306,6 +311,7 @@ module _ {Then : List Entry → Type 0} {met : List Outcome} {names names1 : Nam
       record {
         entries = more ++ before.entries;
         calls = get_calls names1 job fetched.got fetched.bytes ++ before.calls;
+        ticks = (fetched.answer.ran.ticks ++ runs.ticks) ++ before.ticks;
         done = did_more before (get_does reading job is runs fetched);
         met_so = before.met_so;
         no_bytes = ap (λ bs. (bs ++ []) ++ []) before.no_bytes;
@@ -321,26 +327,28 @@ module _ {Then : List Entry → Type 0} {met : List Outcome} {names names1 : Nam
       → SoFar Then met names names1 a b tape tape1 log log1 faults faults1 clock clock1 parts
       → (reading : ℕ) (job : GetJob) → entry ≡ event reading (kind.GetBegin job.block job.expect job.verify)
       → IsBlockOf parts job.block
-      → RunsWhere Then names1 names2 b c tape1 tape2 clock1 clock2 (entry ∷ [])
+      → TickedWhere Then names1 names2 b c tape1 tape2 clock1 clock2 (entry ∷ [])
       → FetchDoes (Runs names2 names3 c d tape2 tape3 clock2 clock3) (Gains log1 log3)
       (CountsFaults faults1 faults3) names2 job.block job.verify ended
       → (fault : CallFault) → ended ≡ Err fault
       → Does (Did names names3 a d tape tape3 log log3 faults faults3 clock clock3) parts
-      (λ entries calls. (outcomes_of entries ≡ met) × HasCause fault entries calls)
+      (λ entries calls ticks. (outcomes_of entries ≡ met) × HasCause fault entries calls ticks)
   get_fails before reading job is same runs fetched fault failed =
       let ends : EndsAs {U = Unit {0}} fetched.got (Err fault) =
       subst (λ (r : Result Unit CallFault). EndsAs fetched.got r) failed fetched.answer.ends in
       let begun = event reading (kind.GetBegin job.block job.expect job.verify) in
       let cause = get_failed (name_of names1 job.block) job.block job.verify fetched.got fetched.bytes
-      fetched.answer.reading fetched.answer.taken fault (begun ∷ []) ends in
+      fetched.answer.reading fetched.answer.taken fault (begun ∷ []) (fetched.answer.ran.ticks ++ runs.ticks) ends in
       let more = get_entries reading job fetched.answer.reading fetched.got fetched.bytes fetched.answer.taken in
       record {
         entries = more ++ before.entries;
         calls = get_calls names1 job fetched.got fetched.bytes ++ before.calls;
+        ticks = (fetched.answer.ran.ticks ++ runs.ticks) ++ before.ticks;
         done = did_more before (get_does reading job is runs fetched);
         ends = (
           before.met_so,
-          cause_stays fault before.entries more before.calls (get_calls names1 job fetched.got fetched.bytes) cause,
+          cause_stays fault before.entries more before.calls (get_calls names1 job fetched.got fetched.bytes)
+              before.ticks (fetched.answer.ran.ticks ++ runs.ticks) cause,
         );
         asks = get_asks parts before.entries reading job fetched.answer.reading fetched.got fetched.bytes
             fetched.answer.taken before.asks same;
@@ -353,7 +361,7 @@ module _ {Then : List Entry → Type 0} {met : List Outcome} {names names1 : Nam
       → Lasts Then → SoFar Then met names names1 a b tape tape1 log log1 faults faults1 clock clock1 parts
       → (reading block : ℕ) (content : List ℕ)
       → entry ≡ event reading (kind.PutBegin block content)
-      → RunsWhere Then names1 names2 b c tape1 tape2 clock1 clock2 (entry ∷ [])
+      → TickedWhere Then names1 names2 b c tape1 tape2 clock1 clock2 (entry ∷ [])
       → StoreDoes (Runs names2 names3 c d tape2 tape3 clock2 clock3) (Gains log1 log3)
       (CountsFaults faults1 faults3) names2 block content ended
       → SoFar Then met names names3 a d tape tape3 log log3 faults faults3 clock clock3 parts
@@ -362,6 +370,7 @@ module _ {Then : List Entry → Type 0} {met : List Outcome} {names names1 : Nam
       record {
         entries = more ++ before.entries;
         calls = put_calls names1 block content stored.sent ++ before.calls;
+        ticks = (stored.ran.ticks ++ runs.ticks) ++ before.ticks;
         done = did_more before (put_does reading block content is runs stored);
         met_so = before.met_so;
         no_bytes = ap (λ bs. (bs ++ []) ++ []) before.no_bytes;
@@ -376,25 +385,27 @@ module _ {Then : List Entry → Type 0} {met : List Outcome} {names names1 : Nam
       → SoFar Then met names names1 a b tape tape1 log log1 faults faults1 clock clock1 parts
       → (reading block : ℕ) (content : List ℕ)
       → entry ≡ event reading (kind.PutBegin block content)
-      → RunsWhere Then names1 names2 b c tape1 tape2 clock1 clock2 (entry ∷ [])
+      → TickedWhere Then names1 names2 b c tape1 tape2 clock1 clock2 (entry ∷ [])
       → StoreDoes (Runs names2 names3 c d tape2 tape3 clock2 clock3) (Gains log1 log3)
       (CountsFaults faults1 faults3) names2 block content ended
       → (fault : CallFault) → ended ≡ Err fault
       → Does (Did names names3 a d tape tape3 log log3 faults faults3 clock clock3) parts
-      (λ entries calls. (outcomes_of entries ≡ met) × HasCause fault entries calls)
+      (λ entries calls ticks. (outcomes_of entries ≡ met) × HasCause fault entries calls ticks)
   put_fails before reading block content is runs stored fault failed =
       let ends : EndsAs {U = Unit {0}} stored.sent (Err fault) =
       subst (λ (r : Result Unit CallFault). EndsAs stored.sent r) failed stored.ends in
       let more = put_entries reading block content stored.reading stored.sent in
       let cause = put_failed (name_of names1 block) block (meta_of (Some names1.meta) block) content stored.sent
-      stored.reading fault (event reading (kind.PutBegin block content) ∷ []) ends in
+      stored.reading fault (event reading (kind.PutBegin block content) ∷ []) (stored.ran.ticks ++ runs.ticks) ends in
       record {
         entries = more ++ before.entries;
         calls = put_calls names1 block content stored.sent ++ before.calls;
+        ticks = (stored.ran.ticks ++ runs.ticks) ++ before.ticks;
         done = did_more before (put_does reading block content is runs stored);
         ends = (
           before.met_so,
-          cause_stays fault before.entries more before.calls (put_calls names1 block content stored.sent) cause,
+          cause_stays fault before.entries more before.calls (put_calls names1 block content stored.sent)
+              before.ticks (stored.ran.ticks ++ runs.ticks) cause,
         );
         asks = record { asked = before.asks.asked };
       }
@@ -407,7 +418,8 @@ pub begins_flush : {names names1 : Naming} {a b : Core} {tape tape1 : Option (Li
 begins_flush {log = log} {faults = faults} reading mark runs = record {
   entries = event reading (kind.FlushBegin mark) ∷ [];
   calls = [];
-  done = record { runs = runs; asked = asked_nothing log faults; requests = refl };
+  ticks = runs.ticks;
+  done = record { runs = runs.ran; asked = asked_nothing log faults; requests = refl };
   met_so = refl;
   no_bytes = refl;
   asks = record { asked = tt };

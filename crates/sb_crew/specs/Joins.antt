@@ -79,12 +79,12 @@ pass_joins xs (y ∷ ys) first second = (second.0, pass_joins xs ys first second
 -- a run over histories of one kind, and one over those that it leads to
 pub runs_join : {Is Then : List Entry → Type 0} {names names' names'' : Naming} {a b c : Core}
     {tape tape' tape'' : Option (List Entry)} {clock clock' clock'' : Option (List Tick)} {xs ys : List Entry}
-    → ((past : List Entry) → Is past → Then (xs ++ past))
-    → RunsWhere Is names names' a b tape tape' clock clock' xs
-    → RunsWhere Then names' names'' b c tape' tape'' clock' clock'' ys
-    → RunsWhere Is names names'' a c tape tape'' clock clock'' (ys ++ xs)
+    {ss ts : List Tick} → ((past : List Entry) → Is past → Then (xs ++ past))
+    → RunsWhere Is names names' a b tape tape' clock clock' xs ss
+    → RunsWhere Then names' names'' b c tape' tape'' clock' clock'' ys ts
+    → RunsWhere Is names names'' a c tape tape'' clock clock'' (ys ++ xs) (ts ++ ss)
 runs_join {Is} {Then} {names} {names'} {names''} {a} {b} {c} {tape} {tape'} {tape''} {clock} {clock'} {clock''} {xs}
-    {ys} leads first second = record {
+    {ys} {ss} {ts} leads first second = record {
       same_names = second.same_names ∙ first.same_names;
       base = record {
         geometry = second.base.geometry ∙ first.base.geometry;
@@ -95,13 +95,12 @@ runs_join {Is} {Then} {names} {names'} {names''} {a} {b} {c} {tape} {tape'} {tap
           (second.history (xs ++ past) (leads past fits) (first.history past fits is));
       of_pass = pass_joins xs ys first.of_pass second.of_pass;
       told = gains_join tape tape' tape'' xs ys first.told second.told;
-      ticks = second.ticks ++ first.ticks;
-      readings = gains_join clock clock' clock'' first.ticks second.ticks first.readings second.readings;
+      readings = gains_join clock clock' clock'' ss ts first.readings second.readings;
       trace = λ past fits is.
-          let P : Geometry → Type 0 = λ g. ClockTrace g (settings_of b) only_caller (xs ++ past) ys None second.ticks in
-          let Q : Settings → Type 0 = λ s. ClockTrace (geometry_of a) s only_caller (xs ++ past) ys None second.ticks in
+          let P : Geometry → Type 0 = λ g. ClockTrace g (settings_of b) only_caller (xs ++ past) ys None ts in
+          let Q : Settings → Type 0 = λ s. ClockTrace (geometry_of a) s only_caller (xs ++ past) ys None ts in
           let later = second.trace (xs ++ past) (leads past fits) (first.history past fits is) in
-          clock_traces_join (geometry_of a) (settings_of a) only_caller past xs ys None first.ticks second.ticks
+          clock_traces_join (geometry_of a) (settings_of a) only_caller past xs ys None ss ts
           (first.trace past fits is) (subst Q first.base.settings (subst P first.base.geometry later));
     }
 
@@ -109,10 +108,11 @@ runs_join {Is} {Then} {names} {names'} {names''} {a} {b} {c} {tape} {tape'} {tap
 pub did_join : {Is Then : List Entry → Type 0} {names names' names'' : Naming} {a b c : Core}
     {tape tape' tape'' : Option (List Entry)} {log log' log'' : Option (List Call)} {faults faults' faults'' : ℕ}
     {clock clock' clock'' : Option (List Tick)} {xs ys : List Entry} {us vs : List Call}
-    → ((past : List Entry) → Is past → Then (xs ++ past))
-    → DidWhere Is names names' a b tape tape' log log' faults faults' clock clock' xs us
-    → DidWhere Then names' names'' b c tape' tape'' log' log'' faults' faults'' clock' clock'' ys vs
+    {ss ts : List Tick} → ((past : List Entry) → Is past → Then (xs ++ past))
+    → DidWhere Is names names' a b tape tape' log log' faults faults' clock clock' xs us ss
+    → DidWhere Then names' names'' b c tape' tape'' log' log'' faults' faults'' clock' clock'' ys vs ts
     → DidWhere Is names names'' a c tape tape'' log log'' faults faults'' clock clock'' (ys ++ xs) (vs ++ us)
+    (ts ++ ss)
 did_join {Is} {Then} {names} {names'} {names''} {a} {b} {c} {tape} {tape'} {tape''} {log} {log'} {log''} {faults}
     {faults'} {faults''} {clock} {clock'} {clock''} {xs} {ys} {us} {vs} leads first second =
     let P : Naming → Type 0 = λ n. RequestLog (name_of n) (Some n.meta) ys vs in
@@ -126,7 +126,7 @@ did_join {Is} {Then} {names} {names'} {names''} {a} {b} {c} {tape} {tape'} {tape
 -- nothing was done
 pub did_nothing : {Is : List Entry → Type 0} {names : Naming} {core : Core} {tape : Option (List Entry)}
     {log : Option (List Call)} {faults : ℕ} {clock : Option (List Tick)}
-    → DidWhere Is names names core core tape tape log log faults faults clock clock [] []
+    → DidWhere Is names names core core tape tape log log faults faults clock clock [] [] []
 did_nothing {names} {core} {tape} {log} {faults} {clock} = record {
   runs = record {
     same_names = refl;
@@ -134,7 +134,6 @@ did_nothing {names} {core} {tape} {log} {faults} {clock} = record {
     history = λ past fits is. is;
     of_pass = tt;
     told = gains_nothing tape;
-    ticks = [];
     readings = gains_nothing clock;
     trace = λ past fits is. refl;
   };

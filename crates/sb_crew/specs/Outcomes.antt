@@ -1,4 +1,4 @@
--- What the entries of a call of the disk came to. Entries and calls of the link are newest first.
+-- What the entries of a call of the disk came to. Entries, calls of the link and ticks are newest first.
 use Rattle.std.specs.Prelude.{ℕ, ◌≡◌, ◌<◌, ◌⊎◌, length, List, [], ◌∷◌, ◌++◌, Option, Some, None, Result, Ok, Err, false}
 use Rattle.std.specs.List.{AllByRecursion}
 use Rattle.sb_base.specs.declared.part.Part.{Part}
@@ -6,6 +6,7 @@ use Rattle.sb_base.specs.declared.entry.Entry.{Entry}
 use Rattle.sb_base.specs.declared.entry.EntryKind.{EntryKind}
 use Rattle.sb_base.specs.declared.entry.EntryKind.TheVariants as kind
 use Rattle.sb_base.specs.declared.entry.Shown.TheVariants as shown
+use Rattle.sb_world.specs.declared.clock.Tick.{Tick}
 use Rattle.sb_world.specs.declared.link.Call.{Call}
 use Rattle.sb_world.specs.declared.link.Call.TheVariants as call
 use Rattle.sb_world.specs.declared.link.GetReply.TheVariants as get
@@ -82,42 +83,49 @@ link_fault (StoreFault status) = link.Failed status
 link_fault Memory = link.Memory
 
 -- the newest entry is a failure, and the newest call of the link answered this fault
-abbrev pub HasCause : CallFault → List Entry → List Call → Type 0
-HasCause fault (entry ∷ entries) (call ∷ calls) = IsFailure entry.kind × (fault_of call ≡ Some (link_fault fault))
-HasCause fault entries calls = ⊥
+abbrev pub HasCause : CallFault → List Entry → List Call → List Tick → Type 0
+HasCause fault (entry ∷ entries) (call ∷ calls) ticks =
+    IsFailure entry.kind × (fault_of call ≡ Some (link_fault fault))
+HasCause fault entries calls ticks = ⊥
 
 -- a proper front of a goal was met, and then a call of the disk failed so
-pub record Stops (goal : List Outcome) (entries : List Entry) (calls : List Call) (fault : CallFault) : Type 0 where
+pub record Stops (goal : List Outcome) (entries : List Entry) (calls : List Call) (ticks : List Tick)
+    (fault : CallFault) : Type 0 where
   pub missing : List Outcome
   pub some : 0 < length missing
   pub met : missing ++ outcomes_of entries ≡ goal
-  pub cause : HasCause fault entries calls
+  pub cause : HasCause fault entries calls ticks
 
 -- what was done between two states of a disk and its desk: it ended so, and asked for no other blocks than those of
 -- these parts
-pub record Does (did : List Entry → List Call → Type 0) (parts : List Part)
-    (Ends : List Entry → List Call → Type 0) : Type 0 where
+pub record Does (did : List Entry → List Call → List Tick → Type 0) (parts : List Part)
+    (Ends : List Entry → List Call → List Tick → Type 0) : Type 0 where
   pub entries : List Entry
   pub calls : List Call
-  pub done : did entries calls
-  pub ends : Ends entries calls
+  pub ticks : List Tick
+  pub done : did entries calls ticks
+  pub ends : Ends entries calls ticks
   pub asks : AsksOnly parts entries
 
 -- a call read a part and gave these bytes, or it read nothing and has a cause
-abbrev pub ReadEnds : Part → List ℕ → Result Unit CallFault → List Entry → List Call → Type 0
-ReadEnds part bytes (Ok done) entries calls =
+abbrev pub ReadEnds : Part → List ℕ → Result Unit CallFault → List Entry → List Call → List Tick
+    → Type 0
+ReadEnds part bytes (Ok done) entries calls ticks =
     (outcomes_of entries ≡ ReadDone part ∷ []) × (bytes_read entries ≡ bytes)
-ReadEnds part bytes (Err fault) entries calls = (outcomes_of entries ≡ []) × HasCause fault entries calls
+ReadEnds part bytes (Err fault) entries calls ticks = (outcomes_of entries ≡ []) × HasCause fault entries calls ticks
 
-abbrev pub ReadDoes : (List Entry → List Call → Type 0) → Part → List ℕ → Result Unit CallFault → Type 0
+abbrev pub ReadDoes : (List Entry → List Call → List Tick → Type 0) → Part → List ℕ → Result Unit CallFault
+    → Type 0
 ReadDoes did part bytes result = Does did (part ∷ []) (ReadEnds part bytes result)
 
 -- a call wrote these bytes to a part, or it wrote nothing and has a cause
-abbrev pub WriteEnds : Part → List ℕ → Result Unit CallFault → List Entry → List Call → Type 0
-WriteEnds part bytes (Ok done) entries calls = outcomes_of entries ≡ WriteDone part bytes ∷ []
-WriteEnds part bytes (Err fault) entries calls = (outcomes_of entries ≡ []) × HasCause fault entries calls
+abbrev pub WriteEnds : Part → List ℕ → Result Unit CallFault → List Entry → List Call → List Tick
+    → Type 0
+WriteEnds part bytes (Ok done) entries calls ticks = outcomes_of entries ≡ WriteDone part bytes ∷ []
+WriteEnds part bytes (Err fault) entries calls ticks = (outcomes_of entries ≡ []) × HasCause fault entries calls ticks
 
-abbrev pub WriteDoes : (List Entry → List Call → Type 0) → Part → List ℕ → Result Unit CallFault → Type 0
+abbrev pub WriteDoes : (List Entry → List Call → List Tick → Type 0) → Part → List ℕ → Result Unit CallFault
+    → Type 0
 WriteDoes did part bytes result = Does did (part ∷ []) (WriteEnds part bytes result)
 
 -- what a flush with this mark wants done
@@ -125,9 +133,9 @@ abbrev pub flush_of : ℕ → List Outcome
 flush_of mark = FlushEnded mark ∷ FlushBegun mark ∷ []
 
 -- a flush began and ended with one mark, or it did not and has a cause
-abbrev pub FlushEnds : Result Unit CallFault → List Entry → List Call → Type 0
-FlushEnds (Ok done) entries calls = (mark : ℕ) × (outcomes_of entries ≡ flush_of mark)
-FlushEnds (Err fault) entries calls = (mark : ℕ) × Stops (flush_of mark) entries calls fault
+abbrev pub FlushEnds : Result Unit CallFault → List Entry → List Call → List Tick → Type 0
+FlushEnds (Ok done) entries calls ticks = (mark : ℕ) × (outcomes_of entries ≡ flush_of mark)
+FlushEnds (Err fault) entries calls ticks = (mark : ℕ) × Stops (flush_of mark) entries calls ticks fault
 
-abbrev pub FlushDoes : (List Entry → List Call → Type 0) → Result Unit CallFault → Type 0
+abbrev pub FlushDoes : (List Entry → List Call → List Tick → Type 0) → Result Unit CallFault → Type 0
 FlushDoes did result = Does did [] (FlushEnds result)

@@ -35,33 +35,40 @@ HasBegun mark past = IsSome (flush_place past mark)
 -- the names stay, the core added these entries to each history of this kind that it represents, the tape has them, and
 -- the clock gave their readings
 pub record RunsWhere (Is : List Entry → Type 0) (names names' : Naming) (core core' : Core)
-    (tape tape' : Option (List Entry)) (clock clock' : Option (List Tick)) (entries : List Entry) : Type 0 where
+    (tape tape' : Option (List Entry)) (clock clock' : Option (List Tick)) (entries : List Entry)
+    (ticks : List Tick) : Type 0 where
   pub same_names : names' ≡ names
   pub base : SameBase core core'
   pub history : (past : List Entry) → Is past → Represents core past → Represents core' (entries ++ past)
   pub of_pass : IsOfPass 1 entries
   pub told : Gains tape tape' entries
-  pub ticks : List Tick
   pub readings : Gains clock clock' ticks
   pub trace : (past : List Entry) → Is past → Represents core past
       → ClockTrace (geometry_of core) (settings_of core) only_caller past entries None ticks
+
+-- the same with some ticks
+pub record TickedWhere (Is : List Entry → Type 0) (names names' : Naming) (core core' : Core)
+    (tape tape' : Option (List Entry)) (clock clock' : Option (List Tick)) (entries : List Entry) : Type 0 where
+  pub ticks : List Tick
+  pub ran : RunsWhere Is names names' core core' tape tape' clock clock' entries ticks
 
 -- the same for histories of every kind
 abbrev pub Runs : Naming → Naming → Core → Core → Option (List Entry) → Option (List Entry) → Option (List Tick)
     → Option (List Tick) → List Entry → Type 0
 Runs names names' core core' tape tape' clock clock' entries =
-    RunsWhere any_past names names' core core' tape tape' clock clock' entries
+    TickedWhere any_past names names' core core' tape tape' clock clock' entries
 
 -- these entries were added, and the link's log gained just the calls that they stand for, under the disk's names
 pub record DidWhere (Is : List Entry → Type 0) (names names' : Naming) (core core' : Core)
     (tape tape' : Option (List Entry)) (log log' : Option (List Call)) (faults faults' : ℕ)
-    (clock clock' : Option (List Tick)) (entries : List Entry) (calls : List Call) : Type 0 where
-  pub runs : RunsWhere Is names names' core core' tape tape' clock clock' entries
+    (clock clock' : Option (List Tick)) (entries : List Entry) (calls : List Call) (ticks : List Tick) : Type 0 where
+  pub runs : RunsWhere Is names names' core core' tape tape' clock clock' entries ticks
   pub asked : Asked log log' faults faults' calls
   pub requests : RequestLog (name_of names) (Some names.meta) entries calls
 
 -- the same for histories of every kind
 abbrev pub Did : Naming → Naming → Core → Core → Option (List Entry) → Option (List Entry) → Option (List Call)
-    → Option (List Call) → ℕ → ℕ → Option (List Tick) → Option (List Tick) → List Entry → List Call → Type 0
-Did names names' core core' tape tape' log log' faults faults' clock clock' entries calls =
-    DidWhere any_past names names' core core' tape tape' log log' faults faults' clock clock' entries calls
+    → Option (List Call) → ℕ → ℕ → Option (List Tick) → Option (List Tick) → List Entry → List Call → List Tick
+    → Type 0
+Did names names' core core' tape tape' log log' faults faults' clock clock' entries calls ticks =
+    DidWhere any_past names names' core core' tape tape' log log' faults faults' clock clock' entries calls ticks

@@ -24,7 +24,8 @@ pub record SoFar (Then : List Entry → Type 0) (met : List Outcome) (names name
     (clock clock' : Option (List Tick)) (parts : List Part) : Type 0 where
   pub entries : List Entry
   pub calls : List Call
-  pub done : Did names names' core core' tape tape' log log' faults faults' clock clock' entries calls
+  pub ticks : List Tick
+  pub done : Did names names' core core' tape tape' log log' faults faults' clock clock' entries calls ticks
   pub met_so : outcomes_of entries ≡ met
   pub no_bytes : bytes_read entries ≡ []
   pub asks : AsksOnly parts entries

@@ -91,13 +91,13 @@ impl<T: Tape, L: Link, C: Clock> Calls<Desk<L, C>> for Alone<T> {
 
     ghost ready = { λ disk desk. IsReady disk.core disk.reading (vec_len desk.room) };
 
-    ghost did = { λ disk desk disk' desk' entries calls. Did disk.names disk'.names disk.core disk'.core
+    ghost did = { λ disk desk disk' desk' entries calls ticks. Did disk.names disk'.names disk.core disk'.core
         (T.told disk.tape) (T.told disk'.tape) (L.log desk.link) (L.log desk'.link) (L.faults desk.link)
-        (L.faults desk'.link) (C.ticks desk.clock) (C.ticks desk'.clock) entries calls };
+        (L.faults desk'.link) (C.ticks desk.clock) (C.ticks desk'.clock) entries calls ticks };
 
     ghost did_nothing = { λ disk desk. did_nothing };
 
-    ghost did_both = { λ d₁ k₁ d₂ k₂ d₃ k₃ xs ys us vs first second. did_join (λ past fits. fits) first second };
+    ghost did_both = { λ d₁ k₁ d₂ k₂ d₃ k₃ xs ys us vs ss ts first second. did_join (λ past fits. fits) first second };
 
     fn geometry(&self) -> Geometry {
         self.core.geometry()

@@ -4,6 +4,7 @@ ghost use Rattle.std.specs.Prelude.{◌≡◌, List, [], ◌++◌, length};
 ghost use Rattle.sb_base.specs.declared.entry.Entry.{Entry};
 ghost use Rattle.sb_base.specs.declared.geometry.Geometry.{Geometry};
 ghost use Rattle.sb_base.specs.Ranges.{IsPart};
+ghost use Rattle.sb_world.specs.declared.clock.Tick.{Tick};
 ghost use Rattle.sb_world.specs.declared.link.Call.{Call};
 ghost use Rattle.sb_crew.specs.Outcomes.{ReadDoes, WriteDoes, FlushDoes};
 
@@ -26,17 +27,17 @@ pub trait Calls<K> {
     /// A call may be made.
     ghost ready: { Self → K → Type 0 };
 
-    /// What happened from one state of disk and desk to another: these entries and these calls of the link, the newest
-    /// first.
-    ghost did: { Self → K → Self → K → List Entry → List Call → Type 0 };
+    /// What happened from one state of disk and desk to another: these entries, these calls of the link and these ticks
+    /// of the clock, the newest first.
+    ghost did: { Self → K → Self → K → List Entry → List Call → List Tick → Type 0 };
 
     /// Nothing happens from a state to itself.
-    ghost did_nothing: { (disk : Self) (desk : K) → did disk desk disk desk [] [] };
+    ghost did_nothing: { (disk : Self) (desk : K) → did disk desk disk desk [] [] [] };
 
     /// What happened to one state and from there on happened in all.
     ghost did_both: { (d₁ : Self) (k₁ : K) (d₂ : Self) (k₂ : K) (d₃ : Self) (k₃ : K) (xs ys : List Entry)
-        (us vs : List Call) → did d₁ k₁ d₂ k₂ xs us → did d₂ k₂ d₃ k₃ ys vs
-        → did d₁ k₁ d₃ k₃ (ys ++ xs) (vs ++ us) };
+        (us vs : List Call) (ss ts : List Tick) → did d₁ k₁ d₂ k₂ xs us ss → did d₂ k₂ d₃ k₃ ys vs ts
+        → did d₁ k₁ d₃ k₃ (ys ++ xs) (vs ++ us) (ts ++ ss) };
 
     /// Its size.
     fn geometry(&self) -> Geometry

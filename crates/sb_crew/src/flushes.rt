@@ -28,7 +28,7 @@ impl<T: Tape> Alone<T> {
     ghost use Rattle.sb_core.specs.Steps.{AnswersFlush, CopiesFlush, flush_begin_entry, flush_step_entry};
     ghost use Rattle.sb_crew.specs.Outcomes.{FlushDoes};
     ghost use Rattle.sb_crew.specs.Ready.{IsReady};
-    ghost use Rattle.sb_crew.specs.Runs.{Runs, RunsWhere, HasBegun, Did};
+    ghost use Rattle.sb_crew.specs.Runs.{Runs, TickedWhere, HasBegun, Did};
 
     /// Begins a flush.
     fn begin_flush<C: Clock>(&mut self, clock: &mut C) -> Mark
@@ -48,7 +48,7 @@ impl<T: Tape> Alone<T> {
     /// Asks the core for a step of a flush.
     fn ask_flush<C: Clock>(&mut self, clock: &mut C, room: &mut [u8], mark: Mark) -> FlushStep
         requires ready { IsReady self.old.core self.old.reading (length room.old) }
-        ensures runs { RunsWhere (HasBegun mark) self.old.names self.new.names self.old.core self.new.core
+        ensures runs { TickedWhere (HasBegun mark) self.old.names self.new.names self.old.core self.new.core
             (T.told self.old.tape) (T.told self.new.tape) (C.ticks clock.old) (C.ticks clock.new)
             (flush_step_entry 1 self.new.reading mark room.new result ∷ []) }
         ensures answer { AnswersFlush self.old.core self.new.reading mark result }

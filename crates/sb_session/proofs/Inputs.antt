@@ -6,6 +6,7 @@ use Rattle.std.specs.List.{AllByRecursion}
 use Rattle.std.proofs.lemmas.List.{length-append}
 use Rattle.sb_base.specs.declared.geometry.Geometry.{Geometry}
 use Rattle.sb_base.specs.declared.entry.Entry.{Entry}
+use Rattle.sb_world.specs.declared.clock.Tick.{Tick}
 use Rattle.sb_world.specs.declared.link.Call.{Call}
 use Rattle.sb_nbd.specs.declared.wanted.Wanted.{Wanted}
 use Rattle.sb_nbd.specs.declared.request.TheConstants.{REQUEST_MAGIC}
@@ -225,7 +226,7 @@ ends_input now tail rest Spent told stops = tt
 
 -- the requests that a session answered are all there are, up to what ended it
 pub all_answered : (geometry : Geometry) (before now ha hb : Option (List ℕ))
-    (did : List Entry → List Call → Type 0) (end : SessionEnd) (n : ℕ) (rest : List ℕ) → now ≡ Some rest
+    (did : List Entry → List Call → List Tick → Type 0) (end : SessionEnd) (n : ℕ) (rest : List ℕ) → now ≡ Some rest
     → (s : Stopped geometry before now ha hb did end n)
     → (bytes : List ℕ) × (before ≡ Some bytes) × IsInput bytes (requests_of s.transcript) end
 all_answered geometry before now ha hb did end n rest told s = (

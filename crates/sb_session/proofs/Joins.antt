@@ -4,13 +4,15 @@ use Rattle.std.proofs.Common.{ap, sym, subst, refl, arith}
 use Rattle.sb_base.specs.declared.geometry.Geometry.{Geometry}
 use Rattle.sb_base.specs.declared.entry.Entry.{Entry}
 use Rattle.sb_world.specs.Streams.{Takes}
+use Rattle.sb_world.specs.declared.clock.Tick.{Tick}
 use Rattle.sb_world.specs.declared.link.Call.{Call}
 use Rattle.sb_nbd.specs.Requests.{request_bytes}
 use Rattle.sb_nbd.specs.Replies.{reply_bytes}
 use Rattle.sb_world.proofs.Streaming.{takes_both, takes_nothing, holds_both, holds_nothing}
 use Rattle.sb_session.specs.declared.end.SessionEnd.{SessionEnd}
 use Rattle.sb_session.specs.declared.end.SessionEnd.TheVariants.{Spent}
-use Rattle.sb_session.specs.Transcripts.{Exchange, IsTranscript, entries_of, calls_of, asking_bytes, replying_bytes}
+use Rattle.sb_session.specs.Transcripts.{Exchange, IsTranscript, entries_of, calls_of, ticks_of, asking_bytes}
+use Rattle.sb_session.specs.Transcripts.{replying_bytes}
 use Rattle.sb_session.specs.Turns.{Serves, Stopped}
 
 asking_bytes-append : (xs ys : List Exchange) → asking_bytes (ys ++ xs) ≡ asking_bytes xs ++ asking_bytes ys
@@ -34,23 +36,32 @@ calls_of-append xs [] = refl
 calls_of-append xs (y ∷ ys) = ap (λ calls. y.calls ++ calls) (calls_of-append xs ys)
     ∙ sym (append_assoc y.calls (calls_of ys) (calls_of xs))
 
+ticks_of-append : (xs ys : List Exchange) → ticks_of (ys ++ xs) ≡ ticks_of ys ++ ticks_of xs
+ticks_of-append xs [] = refl
+ticks_of-append xs (y ∷ ys) = ap (λ ticks. y.ticks ++ ticks) (ticks_of-append xs ys)
+    ∙ sym (append_assoc y.ticks (ticks_of ys) (ticks_of xs))
+
 transcripts_join : (geometry : Geometry) (xs ys : List Exchange) → IsTranscript geometry xs
     → IsTranscript geometry ys → IsTranscript geometry (ys ++ xs)
 transcripts_join geometry xs [] first second = first
 transcripts_join geometry xs (y ∷ ys) first second = (second.0, transcripts_join geometry xs ys first second.1)
 
 -- what two runs of requests did
-did_joins : (P Q R : List Entry → List Call → Type 0)
-    → ((xs ys : List Entry) (us vs : List Call) → P xs us → Q ys vs → R (ys ++ xs) (vs ++ us))
-    → (xs ys : List Exchange) → P (entries_of xs) (calls_of xs) → Q (entries_of ys) (calls_of ys)
-    → R (entries_of (ys ++ xs)) (calls_of (ys ++ xs))
+did_joins : (P Q R : List Entry → List Call → List Tick → Type 0)
+    → ((xs ys : List Entry) (us vs : List Call) (ss ts : List Tick) → P xs us ss → Q ys vs ts
+    → R (ys ++ xs) (vs ++ us) (ts ++ ss))
+    → (xs ys : List Exchange) → P (entries_of xs) (calls_of xs) (ticks_of xs)
+    → Q (entries_of ys) (calls_of ys) (ticks_of ys) → R (entries_of (ys ++ xs)) (calls_of (ys ++ xs))
+    (ticks_of (ys ++ xs))
 did_joins P Q R both xs ys first second =
-    subst (λ entries. R entries (calls_of (ys ++ xs))) (sym (entries_of-append xs ys))
-    (subst (λ calls. R (entries_of ys ++ entries_of xs) calls) (sym (calls_of-append xs ys))
-    (both (entries_of xs) (entries_of ys) (calls_of xs) (calls_of ys) first second))
+    subst (λ entries. R entries (calls_of (ys ++ xs)) (ticks_of (ys ++ xs))) (sym (entries_of-append xs ys))
+    (subst (λ calls. R (entries_of ys ++ entries_of xs) calls (ticks_of (ys ++ xs))) (sym (calls_of-append xs ys))
+    (subst (λ ticks. R (entries_of ys ++ entries_of xs) (calls_of ys ++ calls_of xs) ticks)
+    (sym (ticks_of-append xs ys))
+    (both (entries_of xs) (entries_of ys) (calls_of xs) (calls_of ys) (ticks_of xs) (ticks_of ys) first second)))
 
-pub serves_nothing : (geometry : Geometry) (a ha : Option (List ℕ)) (did : List Entry → List Call → Type 0)
-    → did [] [] → Serves geometry a a ha ha did 0
+pub serves_nothing : (geometry : Geometry) (a ha : Option (List ℕ)) (did : List Entry → List Call → List Tick → Type 0)
+    → did [] [] [] → Serves geometry a a ha ha did 0
 serves_nothing geometry a ha did done = record {
   transcript = [];
   count = refl;
@@ -62,8 +73,9 @@ serves_nothing geometry a ha did done = record {
 }
 
 pub serves_both : (geometry : Geometry) (a b c ha hb hc : Option (List ℕ))
-    (P Q R : List Entry → List Call → Type 0) (m n : ℕ)
-    → ((xs ys : List Entry) (us vs : List Call) → P xs us → Q ys vs → R (ys ++ xs) (vs ++ us))
+    (P Q R : List Entry → List Call → List Tick → Type 0) (m n : ℕ)
+    → ((xs ys : List Entry) (us vs : List Call) (ss ts : List Tick) → P xs us ss → Q ys vs ts
+    → R (ys ++ xs) (vs ++ us) (ts ++ ss))
     → Serves geometry a b ha hb P m → Serves geometry b c hb hc Q n → Serves geometry a c ha hc R (m + n)
 serves_both geometry a b c ha hb hc P Q R m n both first second = record {
   transcript = second.transcript ++ first.transcript;
@@ -76,8 +88,9 @@ serves_both geometry a b c ha hb hc P Q R m n both first second = record {
 }
 
 pub stopped_after : (geometry : Geometry) (a b c ha hb hc : Option (List ℕ))
-    (P Q R : List Entry → List Call → Type 0) (end : SessionEnd) (m n : ℕ)
-    → ((xs ys : List Entry) (us vs : List Call) → P xs us → Q ys vs → R (ys ++ xs) (vs ++ us))
+    (P Q R : List Entry → List Call → List Tick → Type 0) (end : SessionEnd) (m n : ℕ)
+    → ((xs ys : List Entry) (us vs : List Call) (ss ts : List Tick) → P xs us ss → Q ys vs ts
+    → R (ys ++ xs) (vs ++ us) (ts ++ ss))
     → Serves geometry a b ha hb P m → Stopped geometry b c hb hc Q end n → Stopped geometry a c ha hc R end (m + n)
 stopped_after geometry a b c ha hb hc P Q R end m n both first second = record {
   transcript = second.transcript ++ first.transcript;
@@ -103,7 +116,7 @@ stopped_after geometry a b c ha hb hc P Q R end m n both first second = record {
 
 -- after the last request that may be answered
 pub serves_spent : (geometry : Geometry) (a b ha hb : Option (List ℕ))
-    (did : List Entry → List Call → Type 0) (n : ℕ) → Serves geometry a b ha hb did n
+    (did : List Entry → List Call → List Tick → Type 0) (n : ℕ) → Serves geometry a b ha hb did n
     → Stopped geometry a b ha hb did Spent n
 serves_spent geometry a b ha hb did n first = record {
   transcript = first.transcript;

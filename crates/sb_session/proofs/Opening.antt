@@ -5,6 +5,7 @@ use Rattle.std.specs.Int.{w32, to_be_bytes}
 use Rattle.sb_base.specs.declared.geometry.Geometry.{Geometry}
 use Rattle.sb_base.specs.declared.entry.Entry.{Entry}
 use Rattle.sb_world.specs.Streams.{Takes, Holds, WriteHolds}
+use Rattle.sb_world.specs.declared.clock.Tick.{Tick}
 use Rattle.sb_world.specs.declared.link.Call.{Call}
 use Rattle.sb_nbd.specs.declared.end.NbdEnd.{NbdEnd}
 use Rattle.sb_nbd.specs.declared.option.Asked.{Asked}
@@ -18,7 +19,7 @@ use Rattle.sb_session.specs.declared.end.SessionEnd.{SessionEnd}
 use Rattle.sb_session.specs.declared.end.SessionEnd.TheVariants.{Refused, WriteFault}
 use Rattle.sb_session.specs.Handshakes.{end_of, export_option, opening_bytes, wants_zeroes, Opened, Unopened}
 use Rattle.sb_session.specs.Turns.{TurnsEnd}
-use Rattle.sb_session.specs.Transcripts.{entries_of, calls_of}
+use Rattle.sb_session.specs.Transcripts.{entries_of, calls_of, ticks_of}
 use Rattle.sb_session.specs.Sessions.{Served}
 use Rattle.sb_session.proofs.Inputs.{all_answered}
 
@@ -139,9 +140,10 @@ opens geometry t a b c ha hb hc flags asked room option none held first known re
 
 -- a handshake, and the turns behind it
 pub served : (geometry : Geometry) (t : ℕ) (a b c ha hb hc : Option (List ℕ))
-    (did : List Entry → List Call → Type 0) (end : SessionEnd) → Opened geometry t a b ha hb
+    (did : List Entry → List Call → List Tick → Type 0) (end : SessionEnd) → Opened geometry t a b ha hb
     → (ends : TurnsEnd geometry b c hb hc did end)
     → Served geometry t a c ha hc end (entries_of ends.stopped.transcript) (calls_of ends.stopped.transcript)
+    (ticks_of ends.stopped.transcript)
 served geometry t a b c ha hb hc did end opened ends =
     let s = ends.stopped in
     record {
@@ -151,6 +153,7 @@ served geometry t a b c ha hb hc did end opened ends =
       answered = s.answered;
       entries_are = refl;
       calls_are = refl;
+      ticks_are = refl;
       tail = s.tail;
       out = s.out;
       taken = takes_both opened.taken s.taken;

@@ -10,12 +10,14 @@ use borrow.Rule.Slice.PartMut.{put_mid}
 use Rattle.sb_base.specs.declared.geometry.Geometry.{Geometry}
 use Rattle.sb_base.specs.declared.part.Part.{Part}
 use Rattle.sb_base.specs.declared.entry.Entry.{Entry}
+use Rattle.sb_world.specs.declared.clock.Tick.{Tick}
 use Rattle.sb_world.specs.declared.link.Call.{Call}
 use Rattle.sb_nbd.specs.Requests.{Request}
 use Rattle.sb_crew.specs.declared.calls.CallFault.{CallFault}
 use Rattle.sb_crew.specs.Outcomes.{Outcome, ReadDone, outcome_of, outcomes_of, bytes_of, bytes_read, asked_of}
 use Rattle.sb_crew.specs.Outcomes.{blocks_asked, IsBlockOf, AsksOnly, HasCause, ReadDoes, Does, Stops, WriteDone}
 use Rattle.sb_crew.specs.Outcomes.{WriteDoes, FlushDoes, flush_of}
+use Rattle.sb_crew.proofs.OutcomeLemmas.{cause_stays}
 use Rattle.sb_session.specs.Goals.{refusal, reads_of, writes_of}
 use Rattle.sb_session.specs.Answers.{ReadsRange, WritesRange, IsAnswer, ReadAnswers, WriteAnswers, FlushAnswers}
 use Rattle.sb_session.specs.Answers.{Answers, AnswersBy, parts_asked, error_of}
@@ -39,12 +41,6 @@ pub reads_of-append : (ps qs : List Part) → reads_of (ps ++ qs) ≡ reads_of q
 reads_of-append [] qs = sym (append-nil (reads_of qs))
 reads_of-append (p ∷ ps) qs = ap (λ outcomes. outcomes ++ ReadDone p ∷ []) (reads_of-append ps qs)
     ∙ append_assoc (reads_of qs) (reads_of ps) (ReadDone p ∷ [])
-
-cause_stays : (fault : CallFault) (xs ys : List Entry) (us vs : List Call) → HasCause fault ys vs
-    → HasCause fault (ys ++ xs) (vs ++ us)
-cause_stays fault xs [] us vs h = absurd h
-cause_stays fault xs (y ∷ ys) us [] h = absurd h
-cause_stays fault xs (y ∷ ys) us (v ∷ vs) h = h
 
 block_before : (ps qs : List Part) (block : ℕ) → IsBlockOf ps block → IsBlockOf (ps ++ qs) block
 block_before [] qs block h = absurd h
@@ -88,13 +84,13 @@ asks_failed ps qs p xs ys first second =
 
 -- a front of a goal was met, and then a call failed
 pub stops_after : (goal missing before : List Outcome) (xs ys : List Entry) (us vs : List Call)
-    (fault : CallFault) → 0 < length missing → missing ++ before ≡ goal → outcomes_of xs ≡ before
-    → outcomes_of ys ≡ [] → HasCause fault ys vs → Stops goal (ys ++ xs) (vs ++ us) fault
-stops_after goal missing before xs ys us vs fault some whole first second cause = record {
+    (ss ts : List Tick) (fault : CallFault) → 0 < length missing → missing ++ before ≡ goal → outcomes_of xs ≡ before
+    → outcomes_of ys ≡ [] → HasCause fault ys vs ts → Stops goal (ys ++ xs) (vs ++ us) (ts ++ ss) fault
+stops_after goal missing before xs ys us vs ss ts fault some whole first second cause = record {
   missing = missing;
   some = some;
   met = ap (λ os. missing ++ os) (outcomes_of-append xs ys ∙ ap (λ os. os ++ outcomes_of xs) second ∙ first) ∙ whole;
-  cause = cause_stays fault xs ys us vs cause;
+  cause = cause_stays fault xs ys us vs ss ts cause;
 }
 
 -- how many bytes a part has
@@ -125,11 +121,12 @@ bytes_more at room out n m len within = sym
     (take-put_mid at m room out (at + n) (omega (arith, len)) (omega (arith, len, within)))
 
 -- nothing was read yet
-pub reads_none : (did : List Entry → List Call → Type 0) (room : List ℕ) → did [] []
+pub reads_none : (did : List Entry → List Call → List Tick → Type 0) (room : List ℕ) → did [] [] []
     → ReadsRange did [] 0 room (Ok tt)
 reads_none did room done = record {
   entries = [];
   calls = [];
+  ticks = [];
   done = done;
   ends = (refl, refl);
   asks =
@@ -137,15 +134,17 @@ reads_none did room done = record {
 }
 
 -- some parts were read, and one more
-pub reads_more : (P Q R : List Entry → List Call → Type 0)
-    → ((xs ys : List Entry) (us vs : List Call) → P xs us → Q ys vs → R (ys ++ xs) (vs ++ us))
+pub reads_more : (P Q R : List Entry → List Call → List Tick → Type 0)
+    → ((xs ys : List Entry) (us vs : List Call) (ss ts : List Tick) → P xs us ss → Q ys vs ts
+    → R (ys ++ xs) (vs ++ us) (ts ++ ss))
     → (ps : List Part) (p : Part) (at m : ℕ) (room out : List ℕ) → length out ≡ p.length → at + p.length ≤ length room
     → ReadsRange P ps at room (Ok tt) → ReadDoes Q p out (Ok tt)
     → ReadsRange R (ps ++ p ∷ []) (at + p.length) (put_mid at m room out) (Ok tt)
 reads_more P Q R both ps p at m room out len within first second = record {
   entries = second.entries ++ first.entries;
   calls = second.calls ++ first.calls;
-  done = both first.entries second.entries first.calls second.calls first.done second.done;
+  ticks = second.ticks ++ first.ticks;
+  done = both first.entries second.entries first.calls second.calls first.ticks second.ticks first.done second.done;
   ends = (
     outcomes_of-append first.entries second.entries
         ∙ ap (λ os. os ++ outcomes_of first.entries) second.ends.0 ∙ ap (λ os. ReadDone p ∷ os) first.ends.0
@@ -158,17 +157,19 @@ reads_more P Q R both ps p at m room out len within first second = record {
 }
 
 -- some parts were read, and then a call failed
-pub reads_stop : (P Q R : List Entry → List Call → Type 0)
-    → ((xs ys : List Entry) (us vs : List Call) → P xs us → Q ys vs → R (ys ++ xs) (vs ++ us))
+pub reads_stop : (P Q R : List Entry → List Call → List Tick → Type 0)
+    → ((xs ys : List Entry) (us vs : List Call) (ss ts : List Tick) → P xs us ss → Q ys vs ts
+    → R (ys ++ xs) (vs ++ us) (ts ++ ss))
     → (ps qs : List Part) (p : Part) (at count : ℕ) (room now out : List ℕ) (fault : CallFault)
     → ReadsRange P ps at room (Ok tt) → ReadDoes Q p out (Err fault)
     → ReadsRange R (ps ++ p ∷ qs) count now (Err fault)
 reads_stop P Q R both ps qs p at count room now out fault first second = record {
   entries = second.entries ++ first.entries;
   calls = second.calls ++ first.calls;
-  done = both first.entries second.entries first.calls second.calls first.done second.done;
+  ticks = second.ticks ++ first.ticks;
+  done = both first.entries second.entries first.calls second.calls first.ticks second.ticks first.done second.done;
   ends = stops_after (reads_of (ps ++ p ∷ qs)) (reads_of (p ∷ qs))
-      (reads_of ps) first.entries second.entries first.calls second.calls fault
+      (reads_of ps) first.entries second.entries first.calls second.calls first.ticks second.ticks fault
       (omega (arith, length-append (reads_of qs) (ReadDone p ∷ [])))
       (sym (reads_of-append ps (p ∷ qs))) first.ends.0 second.ends.0 second.ends.1;
   asks = asks_failed ps qs p first.entries second.entries first.asks second.asks;
@@ -188,11 +189,12 @@ writes_of-append (p ∷ ps) qs payload =
     ∙ ap (λ bytes. writes_of qs bytes ++ (writes_of ps after ++ last)) behind
 
 -- nothing was written yet
-pub writes_none : (did : List Entry → List Call → Type 0) (payload : List ℕ) → did [] []
+pub writes_none : (did : List Entry → List Call → List Tick → Type 0) (payload : List ℕ) → did [] [] []
     → WritesRange did [] payload (Ok tt)
 writes_none did payload done = record {
   entries = [];
   calls = [];
+  ticks = [];
   done = done;
   ends = refl;
   asks =
@@ -200,8 +202,9 @@ writes_none did payload done = record {
 }
 
 -- some parts were written, and one more
-pub writes_more : (P Q R : List Entry → List Call → Type 0)
-    → ((xs ys : List Entry) (us vs : List Call) → P xs us → Q ys vs → R (ys ++ xs) (vs ++ us))
+pub writes_more : (P Q R : List Entry → List Call → List Tick → Type 0)
+    → ((xs ys : List Entry) (us vs : List Call) (ss ts : List Tick) → P xs us ss → Q ys vs ts
+    → R (ys ++ xs) (vs ++ us) (ts ++ ss))
     → (ps : List Part) (p : Part) (at : ℕ) (payload : List ℕ) → at ≡ sum_by (λ (part : Part). part.length) ps
     → WritesRange P ps payload (Ok tt) → WriteDoes Q p (take (at + p.length - at) (drop at payload)) (Ok tt)
     → WritesRange R (ps ++ p ∷ []) payload (Ok tt)
@@ -212,7 +215,8 @@ writes_more P Q R both ps p at payload is first second =
     record {
       entries = second.entries ++ first.entries;
       calls = second.calls ++ first.calls;
-      done = both first.entries second.entries first.calls second.calls first.done second.done;
+      ticks = second.ticks ++ first.ticks;
+      done = both first.entries second.entries first.calls second.calls first.ticks second.ticks first.done second.done;
       ends = outcomes_of-append first.entries second.entries
           ∙ ap (λ os. os ++ outcomes_of first.entries) (second.ends ∙ given)
           ∙ ap (λ os. WriteDone p (take p.length (drop (sum_by length_of ps) payload)) ∷ os) first.ends
@@ -221,8 +225,9 @@ writes_more P Q R both ps p at payload is first second =
     }
 
 -- some parts were written, and then a call failed
-pub writes_stop : (P Q R : List Entry → List Call → Type 0)
-    → ((xs ys : List Entry) (us vs : List Call) → P xs us → Q ys vs → R (ys ++ xs) (vs ++ us))
+pub writes_stop : (P Q R : List Entry → List Call → List Tick → Type 0)
+    → ((xs ys : List Entry) (us vs : List Call) (ss ts : List Tick) → P xs us ss → Q ys vs ts
+    → R (ys ++ xs) (vs ++ us) (ts ++ ss))
     → (ps qs : List Part) (p : Part) (payload bytes : List ℕ) (fault : CallFault)
     → WritesRange P ps payload (Ok tt) → WriteDoes Q p bytes (Err fault)
     → WritesRange R (ps ++ p ∷ qs) payload (Err fault)
@@ -231,9 +236,10 @@ writes_stop P Q R both ps qs p payload bytes fault first second =
     record {
       entries = second.entries ++ first.entries;
       calls = second.calls ++ first.calls;
-      done = both first.entries second.entries first.calls second.calls first.done second.done;
+      ticks = second.ticks ++ first.ticks;
+      done = both first.entries second.entries first.calls second.calls first.ticks second.ticks first.done second.done;
       ends = stops_after (writes_of (ps ++ p ∷ qs) payload) (writes_of (p ∷ qs) after)
-          (writes_of ps payload) first.entries second.entries first.calls second.calls fault
+          (writes_of ps payload) first.entries second.entries first.calls second.calls first.ticks second.ticks fault
           (omega (
             arith,
             length-append (writes_of qs (drop p.length after))
@@ -244,91 +250,102 @@ writes_stop P Q R both ps qs p payload bytes fault first second =
     }
 
 -- the reply to a goal that was met
-completes : (goal : List Outcome) (bytes : List ℕ) (entries : List Entry) (calls : List Call)
-    → outcomes_of entries ≡ goal → IsAnswer goal bytes entries calls 0 bytes
-completes goal bytes entries calls met = inl (record { met = met; no_error = refl; body_is = refl })
+completes : (goal : List Outcome) (bytes : List ℕ) (entries : List Entry) (calls : List Call) (ticks : List Tick)
+    → outcomes_of entries ≡ goal → IsAnswer goal bytes entries calls ticks 0 bytes
+completes goal bytes entries calls ticks met = inl (record { met = met; no_error = refl; body_is = refl })
 
 -- the reply to one that wasn't
-fails : (goal : List Outcome) (bytes : List ℕ) (entries : List Entry) (calls : List Call)
-    (fault : CallFault) (error : ℕ) → error ≡ error_of fault → Stops goal entries calls fault
-    → IsAnswer goal bytes entries calls error []
-fails goal bytes entries calls fault error is stops =
+fails : (goal : List Outcome) (bytes : List ℕ) (entries : List Entry) (calls : List Call) (ticks : List Tick)
+    (fault : CallFault) (error : ℕ) → error ≡ error_of fault → Stops goal entries calls ticks fault
+    → IsAnswer goal bytes entries calls ticks error []
+fails goal bytes entries calls ticks fault error is stops =
     inr (record { fault = fault; stops = stops; number = is; no_bytes = refl })
 
-pub read_answers : (did : List Entry → List Call → Type 0) (parts : List Part) (count : ℕ) (room : List ℕ)
+pub read_answers : (did : List Entry → List Call → List Tick → Type 0) (parts : List Part) (count : ℕ) (room : List ℕ)
     → ReadsRange did parts count room (Ok tt) → ReadAnswers did parts 0 (take count room)
 read_answers did parts count room read = record {
   entries = read.entries;
   calls = read.calls;
+  ticks = read.ticks;
   done = read.done;
   asks = read.asks;
   ends = inl (record { met = read.ends.0; no_error = refl; body_is = sym read.ends.1 });
 }
 
-pub read_fails : (did : List Entry → List Call → Type 0) (parts : List Part) (count error : ℕ)
+pub read_fails : (did : List Entry → List Call → List Tick → Type 0) (parts : List Part) (count error : ℕ)
     (room : List ℕ) (fault : CallFault) → error ≡ error_of fault
     → ReadsRange did parts count room (Err fault) → ReadAnswers did parts error []
 read_fails did parts count error room fault is read = record {
   entries = read.entries;
   calls = read.calls;
+  ticks = read.ticks;
   done = read.done;
   asks = read.asks;
-  ends = fails (reads_of parts) (bytes_read read.entries) read.entries read.calls fault error is read.ends;
+  ends = fails (reads_of parts) (bytes_read read.entries) read.entries read.calls read.ticks fault error is read.ends;
 }
 
-pub write_answers : (did : List Entry → List Call → Type 0) (parts : List Part) (payload : List ℕ)
+pub write_answers : (did : List Entry → List Call → List Tick → Type 0) (parts : List Part) (payload : List ℕ)
     → WritesRange did parts payload (Ok tt) → WriteAnswers did parts payload 0
 write_answers did parts payload written = record {
   entries = written.entries;
   calls = written.calls;
+  ticks = written.ticks;
   done = written.done;
   asks = written.asks;
-  ends = completes (writes_of parts payload) [] written.entries written.calls written.ends;
+  ends = completes (writes_of parts payload) [] written.entries written.calls written.ticks written.ends;
 }
 
-pub write_fails : (did : List Entry → List Call → Type 0) (parts : List Part) (payload : List ℕ) (error : ℕ)
+pub write_fails : (did : List Entry → List Call → List Tick → Type 0) (parts : List Part) (payload : List ℕ) (error : ℕ)
     (fault : CallFault) → error ≡ error_of fault → WritesRange did parts payload (Err fault)
     → WriteAnswers did parts payload error
 write_fails did parts payload error fault is written = record {
   entries = written.entries;
   calls = written.calls;
+  ticks = written.ticks;
   done = written.done;
   asks = written.asks;
-  ends = fails (writes_of parts payload) [] written.entries written.calls fault error is written.ends;
+  ends = fails (writes_of parts payload) [] written.entries written.calls written.ticks fault error is written.ends;
 }
 
-pub flush_answers : (did : List Entry → List Call → Type 0) → FlushDoes did (Ok tt) → FlushAnswers did 0
+pub flush_answers : (did : List Entry → List Call → List Tick → Type 0) → FlushDoes did (Ok tt) → FlushAnswers did 0
 flush_answers did flushed = record {
   entries = flushed.entries;
   calls = flushed.calls;
-  done = flushed.done;
-  asks = flushed.asks;
-  ends = (flushed.ends.0, completes (flush_of flushed.ends.0) [] flushed.entries flushed.calls flushed.ends.1);
-}
-
-pub flush_fails : (did : List Entry → List Call → Type 0) (error : ℕ) (fault : CallFault)
-    → error ≡ error_of fault → FlushDoes did (Err fault) → FlushAnswers did error
-flush_fails did error fault is flushed = record {
-  entries = flushed.entries;
-  calls = flushed.calls;
+  ticks = flushed.ticks;
   done = flushed.done;
   asks = flushed.asks;
   ends = (
     flushed.ends.0,
-    fails (flush_of flushed.ends.0) [] flushed.entries flushed.calls fault error is
+    completes (flush_of flushed.ends.0) [] flushed.entries flushed.calls flushed.ticks flushed.ends.1,
+  );
+}
+
+pub flush_fails : (did : List Entry → List Call → List Tick → Type 0) (error : ℕ) (fault : CallFault)
+    → error ≡ error_of fault → FlushDoes did (Err fault) → FlushAnswers did error
+flush_fails did error fault is flushed = record {
+  entries = flushed.entries;
+  calls = flushed.calls;
+  ticks = flushed.ticks;
+  done = flushed.done;
+  asks = flushed.asks;
+  ends = (
+    flushed.ends.0,
+    fails (flush_of flushed.ends.0) [] flushed.entries flushed.calls flushed.ticks fault error is
         flushed.ends.1,
   );
 }
 
 -- the reply to a request that is refused
-pub refused_answers : (did : List Entry → List Call → Type 0) (geometry : Geometry) (r : Request) (error : ℕ)
-    → refusal geometry r.wanted ≡ Some error → did [] [] → Answers did geometry r error []
+pub refused_answers : (did : List Entry → List Call → List Tick → Type 0)
+    (geometry : Geometry) (r : Request) (error : ℕ)
+    → refusal geometry r.wanted ≡ Some error → did [] [] [] → Answers did geometry r error []
 refused_answers did geometry r error is done =
     let refused : Does did [] (AnswersBy (Some error) geometry r error []) = record {
       entries = [];
       calls = [];
+      ticks = [];
       done = done;
       asks = record { asked = tt };
-      ends = record { no_entries = refl; no_calls = refl; number = refl; no_bytes = refl };
+      ends = record { no_entries = refl; no_calls = refl; no_ticks = refl; number = refl; no_bytes = refl };
     } in
     subst (λ code. Does did (parts_asked code geometry r) (AnswersBy code geometry r error [])) (sym is) refused

@@ -4,6 +4,7 @@ use Rattle.std.proofs.Common.{arith}
 use Rattle.sb_base.specs.declared.geometry.Geometry.{Geometry}
 use Rattle.sb_base.specs.declared.entry.Entry.{Entry}
 use Rattle.sb_world.specs.Streams.{Takes, Holds, WriteHolds}
+use Rattle.sb_world.specs.declared.clock.Tick.{Tick}
 use Rattle.sb_world.specs.declared.link.Call.{Call}
 use Rattle.sb_nbd.specs.declared.end.NbdEnd.{NbdEnd}
 use Rattle.sb_nbd.specs.declared.end.NbdEnd.TheVariants as nbd
@@ -39,9 +40,9 @@ end_unspent nbd.ReadFault e = cc
 end_unspent nbd.WriteFault e = cc
 
 -- no request, and bytes that end the session
-stops_at_once : (geometry : Geometry) (a b h : Option (List ℕ)) (did : List Entry → List Call → Type 0)
+stops_at_once : (geometry : Geometry) (a b h : Option (List ℕ)) (did : List Entry → List Call → List Tick → Type 0)
     (tail : List ℕ) (end : SessionEnd)
-    → did [] [] → Takes a b tail → StopsBy b tail end → end ≢ Spent → TurnEnds geometry a b h h did (Err end)
+    → did [] [] [] → Takes a b tail → StopsBy b tail end → end ≢ Spent → TurnEnds geometry a b h h did (Err end)
 stops_at_once geometry a b h did tail end done taken stops unspent = record {
   n = 0;
   within = omega arith;
@@ -61,53 +62,58 @@ stops_at_once geometry a b h did tail end done taken stops unspent = record {
   };
 }
 
-pub reading_stops : (geometry : Geometry) (a b h : Option (List ℕ)) (did : List Entry → List Call → Type 0)
+pub reading_stops : (geometry : Geometry) (a b h : Option (List ℕ)) (did : List Entry → List Call → List Tick → Type 0)
     (end : NbdEnd)
-    → did [] [] → ((bytes : List ℕ) × Takes a b bytes × StopsRequest b bytes end)
+    → did [] [] [] → ((bytes : List ℕ) × Takes a b bytes × StopsRequest b bytes end)
     → TurnEnds geometry a b h h did (Err (end_of end))
 reading_stops geometry a b h did end done read =
     stops_at_once geometry a b h did read.0 (end_of end) done read.1 (stops_by b read.0 end read.2)
     (end_unspent end)
 
-pub disc_stops : (geometry : Geometry) (a b h : Option (List ℕ)) (did : List Entry → List Call → Type 0) (r : Request)
-    → did [] [] → IsRequest r → is_disc r.wanted ≡ true → Takes a b (request_bytes r)
+pub disc_stops : (geometry : Geometry) (a b h : Option (List ℕ))
+    (did : List Entry → List Call → List Tick → Type 0) (r : Request)
+    → did [] [] [] → IsRequest r → is_disc r.wanted ≡ true → Takes a b (request_bytes r)
     → TurnEnds geometry a b h h did (Err Disconnected)
 disc_stops geometry a b h did r done is disc taken =
     stops_at_once geometry a b h did (request_bytes r) Disconnected done taken
     (r, record { request = is; disc = disc }, refl) (λ e. cc)
 
 -- the exchange of a request that was done
-abbrev exchange : Request → List Entry → List Call → ℕ → List ℕ → Exchange
-exchange r entries calls error body = record {
+abbrev exchange : Request → List Entry → List Call → List Tick → ℕ → List ℕ → Exchange
+exchange r entries calls ticks error body = record {
   request = r;
   entries = entries;
   calls = calls;
+  ticks = ticks;
   error = error;
   body = body;
 }
 
 -- what one exchange did
-did_one : (did : List Entry → List Call → Type 0) (entries : List Entry) (calls : List Call)
-    → did entries calls → did (entries ++ []) (calls ++ [])
-did_one did entries calls done = subst (λ es. did es (calls ++ [])) (sym (append-nil entries))
-    (subst (did entries) (sym (append-nil calls)) done)
+did_one : (did : List Entry → List Call → List Tick → Type 0) (entries : List Entry)
+    (calls : List Call) (ticks : List Tick) → did entries calls ticks
+    → did (entries ++ []) (calls ++ []) (ticks ++ [])
+did_one did entries calls ticks done =
+    subst (λ es. did es (calls ++ []) (ticks ++ [])) (sym (append-nil entries))
+    (subst (λ cs. did entries cs (ticks ++ [])) (sym (append-nil calls))
+    (subst (did entries calls) (sym (append-nil ticks)) done))
 
-pub serves_one : (geometry : Geometry) (a b ha hb : Option (List ℕ)) (did : List Entry → List Call → Type 0)
+pub serves_one : (geometry : Geometry) (a b ha hb : Option (List ℕ)) (did : List Entry → List Call → List Tick → Type 0)
     (r : Request) (error : ℕ) (body : List ℕ)
     → IsRequest r → is_disc r.wanted ≡ false → Answers did geometry r error body
     → Takes a b (request_bytes r) → Holds ha hb (reply_bytes error r.wanted.cookie body)
     → Serves geometry a b ha hb did 1
 serves_one geometry a b ha hb did r error body is goes_on answers taken held = record {
-  transcript = exchange r answers.entries answers.calls error body ∷ [];
+  transcript = exchange r answers.entries answers.calls answers.ticks error body ∷ [];
   count = refl;
   answered = (record { request = is; goes_on = goes_on; answer = answers.ends; asks = answers.asks }, tt);
-  done = did_one did answers.entries answers.calls answers.done;
+  done = did_one did answers.entries answers.calls answers.ticks answers.done;
   taken = taken;
   held = held;
 }
 
 pub writing_stops : (geometry : Geometry) (a b ha hb : Option (List ℕ))
-    (did : List Entry → List Call → Type 0) (r : Request) (error : ℕ) (body : List ℕ) (fault : NbdEnd)
+    (did : List Entry → List Call → List Tick → Type 0) (r : Request) (error : ℕ) (body : List ℕ) (fault : NbdEnd)
     → IsRequest r → is_disc r.wanted ≡ false → Answers did geometry r error body
     → Takes a b (request_bytes r) → WriteHolds ha hb (Err fault) (reply_bytes error r.wanted.cookie body)
     → TurnEnds geometry a b ha hb did (Err WriteFault)
@@ -117,10 +123,10 @@ writing_stops geometry a b ha hb did r error body fault is goes_on answers taken
   one = λ _. refl;
   unspent = λ e. cc;
   stopped = record {
-    transcript = exchange r answers.entries answers.calls error body ∷ [];
+    transcript = exchange r answers.entries answers.calls answers.ticks error body ∷ [];
     count = refl;
     answered = (record { request = is; goes_on = goes_on; answer = answers.ends; asks = answers.asks }, tt);
-    done = did_one did answers.entries answers.calls answers.done;
+    done = did_one did answers.entries answers.calls answers.ticks answers.done;
     tail = [];
     taken = subst (Takes a b) (sym (append-nil (request_bytes r))) taken;
     stops = refl;

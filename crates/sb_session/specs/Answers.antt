@@ -1,8 +1,9 @@
--- What doing a request came to. Entries and calls of the link are newest first.
+-- What doing a request came to. Entries, calls of the link and ticks are newest first.
 use Rattle.std.specs.Prelude.{ℕ, ◌≡◌, ◌⊎◌, List, [], take, Option, Some, None, Result, Ok, Err}
 use Rattle.sb_base.specs.declared.geometry.Geometry.{Geometry}
 use Rattle.sb_base.specs.declared.part.Part.{Part}
 use Rattle.sb_base.specs.declared.entry.Entry.{Entry}
+use Rattle.sb_world.specs.declared.clock.Tick.{Tick}
 use Rattle.sb_world.specs.declared.link.Call.{Call}
 use Rattle.sb_nbd.specs.declared.reply.TheConstants.{EIO, ENOMEM}
 use Rattle.sb_nbd.specs.Requests.{Request}
@@ -12,22 +13,26 @@ use Rattle.sb_crew.specs.Outcomes.{Outcome, outcomes_of, bytes_read, flush_of, S
 use Rattle.sb_session.specs.Goals.{refusal, parts_wanted, reads_of, writes_of, goal_of, body_of}
 
 -- all parts were read into the front of a buffer, or a call failed before
-abbrev pub RangeReads : List Part → ℕ → List ℕ → Result Unit CallFault → List Entry → List Call → Type 0
-RangeReads parts count room (Ok done) entries calls =
+abbrev pub RangeReads : List Part → ℕ → List ℕ → Result Unit CallFault → List Entry → List Call → List Tick
+    → Type 0
+RangeReads parts count room (Ok done) entries calls ticks =
     (outcomes_of entries ≡ reads_of parts) × (bytes_read entries ≡ take count room)
-RangeReads parts count room (Err fault) entries calls = Stops (reads_of parts) entries calls fault
+RangeReads parts count room (Err fault) entries calls ticks = Stops (reads_of parts) entries calls ticks fault
 
 -- what reading parts did
-abbrev pub ReadsRange : (List Entry → List Call → Type 0) → List Part → ℕ → List ℕ → Result Unit CallFault → Type 0
+abbrev pub ReadsRange : (List Entry → List Call → List Tick → Type 0) → List Part → ℕ → List ℕ → Result Unit CallFault
+    → Type 0
 ReadsRange did parts count room result = Does did parts (RangeReads parts count room result)
 
 -- all parts were written from a payload, or a call failed before
-abbrev pub RangeWrites : List Part → List ℕ → Result Unit CallFault → List Entry → List Call → Type 0
-RangeWrites parts payload (Ok done) entries calls = outcomes_of entries ≡ writes_of parts payload
-RangeWrites parts payload (Err fault) entries calls = Stops (writes_of parts payload) entries calls fault
+abbrev pub RangeWrites : List Part → List ℕ → Result Unit CallFault → List Entry → List Call → List Tick
+    → Type 0
+RangeWrites parts payload (Ok done) entries calls ticks = outcomes_of entries ≡ writes_of parts payload
+RangeWrites parts payload (Err fault) entries calls ticks = Stops (writes_of parts payload) entries calls ticks fault
 
 -- what writing parts did
-abbrev pub WritesRange : (List Entry → List Call → Type 0) → List Part → List ℕ → Result Unit CallFault → Type 0
+abbrev pub WritesRange : (List Entry → List Call → List Tick → Type 0) → List Part → List ℕ → Result Unit CallFault
+    → Type 0
 WritesRange did parts payload result = Does did parts (RangeWrites parts payload result)
 
 -- the error number of a fault
@@ -43,45 +48,49 @@ pub record Completes (goal : List Outcome) (bytes : List ℕ) (entries : List En
   pub body_is : body ≡ bytes
 
 -- it wasn't, for this fault: its error number, and no bytes
-pub record Fails (goal : List Outcome) (entries : List Entry) (calls : List Call) (error : ℕ)
+pub record Fails (goal : List Outcome) (entries : List Entry) (calls : List Call) (ticks : List Tick) (error : ℕ)
     (body : List ℕ) : Type 0 where
   pub fault : CallFault
-  pub stops : Stops goal entries calls fault
+  pub stops : Stops goal entries calls ticks fault
   pub number : error ≡ error_of fault
   pub no_bytes : body ≡ []
 
 -- the goal was met or it wasn't
-abbrev pub IsAnswer : List Outcome → List ℕ → List Entry → List Call → ℕ → List ℕ → Type 0
-IsAnswer goal bytes entries calls error body =
-    Completes goal bytes entries error body ⊎ Fails goal entries calls error body
+abbrev pub IsAnswer : List Outcome → List ℕ → List Entry → List Call → List Tick → ℕ → List ℕ → Type 0
+IsAnswer goal bytes entries calls ticks error body =
+    Completes goal bytes entries error body ⊎ Fails goal entries calls ticks error body
 
 -- what a READ of parts did, and the reply to it
-abbrev pub ReadAnswers : (List Entry → List Call → Type 0) → List Part → ℕ → List ℕ → Type 0
+abbrev pub ReadAnswers : (List Entry → List Call → List Tick → Type 0) → List Part → ℕ → List ℕ → Type 0
 ReadAnswers did parts error body =
-    Does did parts (λ entries calls. IsAnswer (reads_of parts) (bytes_read entries) entries calls error body)
+    Does did parts
+    (λ entries calls ticks. IsAnswer (reads_of parts) (bytes_read entries) entries calls ticks error body)
 
 -- what a WRITE to parts did, and the error of its reply
-abbrev pub WriteAnswers : (List Entry → List Call → Type 0) → List Part → List ℕ → ℕ → Type 0
+abbrev pub WriteAnswers : (List Entry → List Call → List Tick → Type 0) → List Part → List ℕ → ℕ → Type 0
 WriteAnswers did parts payload error =
-    Does did parts (λ entries calls. IsAnswer (writes_of parts payload) [] entries calls error [])
+    Does did parts (λ entries calls ticks. IsAnswer (writes_of parts payload) [] entries calls ticks error [])
 
 -- what a FLUSH did, and the error of its reply
-abbrev pub FlushAnswers : (List Entry → List Call → Type 0) → ℕ → Type 0
+abbrev pub FlushAnswers : (List Entry → List Call → List Tick → Type 0) → ℕ → Type 0
 FlushAnswers did error =
-    Does did [] (λ entries calls. (mark : ℕ) × IsAnswer (flush_of mark) [] entries calls error [])
+    Does did [] (λ entries calls ticks. (mark : ℕ) × IsAnswer (flush_of mark) [] entries calls ticks error [])
 
 -- a request was refused by this error, and nothing was done
-pub record IsRefusal (code : ℕ) (entries : List Entry) (calls : List Call) (error : ℕ) (body : List ℕ) : Type 0 where
+pub record IsRefusal (code : ℕ) (entries : List Entry) (calls : List Call) (ticks : List Tick) (error : ℕ)
+    (body : List ℕ) : Type 0 where
   pub no_entries : entries ≡ []
   pub no_calls : calls ≡ []
+  pub no_ticks : ticks ≡ []
   pub number : error ≡ code
   pub no_bytes : body ≡ []
 
 -- error and bytes of the reply to a request that isn't DISC, by how it is refused
-abbrev pub AnswersBy : Option ℕ → Geometry → Request → ℕ → List ℕ → List Entry → List Call → Type 0
-AnswersBy (Some code) geometry r error body entries calls = IsRefusal code entries calls error body
-AnswersBy None geometry r error body entries calls =
-    (mark : ℕ) × IsAnswer (goal_of geometry r mark) (body_of r.wanted entries) entries calls error body
+abbrev pub AnswersBy : Option ℕ → Geometry → Request → ℕ → List ℕ → List Entry → List Call → List Tick
+    → Type 0
+AnswersBy (Some code) geometry r error body entries calls ticks = IsRefusal code entries calls ticks error body
+AnswersBy None geometry r error body entries calls ticks =
+    (mark : ℕ) × IsAnswer (goal_of geometry r mark) (body_of r.wanted entries) entries calls ticks error body
 
 -- the blocks that it may ask the store for
 abbrev pub parts_asked : Option ℕ → Geometry → Request → List Part
@@ -89,7 +98,7 @@ parts_asked (Some code) geometry r = []
 parts_asked None geometry r = parts_wanted geometry r.wanted
 
 -- what doing a request did, and the reply to it
-abbrev pub Answers : (List Entry → List Call → Type 0) → Geometry → Request → ℕ → List ℕ → Type 0
+abbrev pub Answers : (List Entry → List Call → List Tick → Type 0) → Geometry → Request → ℕ → List ℕ → Type 0
 Answers did geometry r error body =
     Does did (parts_asked (refusal geometry r.wanted) geometry r)
     (AnswersBy (refusal geometry r.wanted) geometry r error body)

@@ -3,13 +3,14 @@ use Rattle.std.specs.Prelude.{ℕ, ◌≡◌, ◌≤◌, ◌+◌, ◌⊎◌, Lis
 use Rattle.sb_base.specs.declared.geometry.Geometry.{Geometry}
 use Rattle.sb_base.specs.declared.entry.Entry.{Entry}
 use Rattle.sb_world.specs.Streams.{Takes, Holds}
+use Rattle.sb_world.specs.declared.clock.Tick.{Tick}
 use Rattle.sb_world.specs.declared.link.Call.{Call}
 use Rattle.sb_nbd.specs.declared.greeting.TheConstants.{MAX_FLAGS}
 use Rattle.sb_session.specs.declared.end.SessionEnd.{SessionEnd}
 use Rattle.sb_session.specs.declared.end.SessionEnd.TheVariants.{WriteFault, Spent}
 use Rattle.sb_session.specs.declared.transmission.TheConstants.{MAX_ANSWERS}
-use Rattle.sb_session.specs.Transcripts.{Exchange, IsTranscript, entries_of, calls_of, asking_bytes, replying_bytes}
-use Rattle.sb_session.specs.Transcripts.{requests_of}
+use Rattle.sb_session.specs.Transcripts.{Exchange, IsTranscript, entries_of, calls_of, ticks_of, asking_bytes}
+use Rattle.sb_session.specs.Transcripts.{replying_bytes, requests_of}
 use Rattle.sb_session.specs.Inputs.{IsInput}
 use Rattle.sb_session.specs.Handshakes.{Unopened, opening_bytes, handshake_bytes}
 use Rattle.sb_session.specs.Turns.{StopsBy, WritesOut}
@@ -17,13 +18,14 @@ use Rattle.sb_session.specs.Turns.{StopsBy, WritesOut}
 -- a session behind its handshake: what it took, did and wrote from its first byte on
 pub record Served (geometry : Geometry) (transmission : ℕ)
     (before now held_before held_now : Option (List ℕ)) (end : SessionEnd) (entries : List Entry)
-    (calls : List Call) : Type 0 where
+    (calls : List Call) (ticks : List Tick) : Type 0 where
   pub flags : ℕ
   pub known : flags ≤ MAX_FLAGS
   pub transcript : List Exchange
   pub answered : IsTranscript geometry transcript
   pub entries_are : entries ≡ entries_of transcript
   pub calls_are : calls ≡ calls_of transcript
+  pub ticks_are : ticks ≡ ticks_of transcript
   -- the bytes behind the last request that was answered, and those that were written behind the handshake
   pub tail : List ℕ
   pub out : List ℕ
@@ -41,11 +43,13 @@ pub record Served (geometry : Geometry) (transmission : ℕ)
 
 -- what a session did: its handshake ended it and the disk wasn't called, or requests were answered
 pub record SessionTold (geometry : Geometry) (transmission : ℕ)
-    (before now held_before held_now : Option (List ℕ)) (did : List Entry → List Call → Type 0)
+    (before now held_before held_now : Option (List ℕ)) (did : List Entry → List Call → List Tick → Type 0)
     (end : SessionEnd) : Type 0 where
   pub entries : List Entry
   pub calls : List Call
-  pub done : did entries calls
+  pub ticks : List Tick
+  pub done : did entries calls ticks
   pub course :
-      (Unopened geometry transmission before now held_before held_now end × (entries ≡ []) × (calls ≡ []))
-      ⊎ Served geometry transmission before now held_before held_now end entries calls
+      (Unopened geometry transmission before now held_before held_now end × (entries ≡ []) × (calls ≡ [])
+      × (ticks ≡ []))
+      ⊎ Served geometry transmission before now held_before held_now end entries calls ticks

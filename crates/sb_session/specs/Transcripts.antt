@@ -1,9 +1,10 @@
--- The requests of a session with what each did and its reply. Exchanges, entries and calls of the link are newest
--- first.
+-- The requests of a session with what each did and its reply. Exchanges, entries, calls of the link and ticks are
+-- newest first.
 use Rattle.std.specs.Prelude.{ℕ, ◌≡◌, false, List, [], ◌∷◌, ◌++◌}
 use Rattle.std.specs.List.{AllByRecursion}
 use Rattle.sb_base.specs.declared.geometry.Geometry.{Geometry}
 use Rattle.sb_base.specs.declared.entry.Entry.{Entry}
+use Rattle.sb_world.specs.declared.clock.Tick.{Tick}
 use Rattle.sb_world.specs.declared.link.Call.{Call}
 use Rattle.sb_nbd.specs.Requests.{Request, IsRequest, request_bytes}
 use Rattle.sb_nbd.specs.Replies.{reply_bytes}
@@ -11,11 +12,12 @@ use Rattle.sb_crew.specs.Outcomes.{AsksOnly}
 use Rattle.sb_session.specs.Goals.{is_disc, refusal}
 use Rattle.sb_session.specs.Answers.{AnswersBy, parts_asked}
 
--- a request, its own entries and calls of the link, and the error and the bytes of its reply
+-- a request, its own entries, calls of the link and ticks, and the error and the bytes of its reply
 pub record Exchange : Type 0 where
   pub request : Request
   pub entries : List Entry
   pub calls : List Call
+  pub ticks : List Tick
   pub error : ℕ
   pub body : List ℕ
 
@@ -24,6 +26,7 @@ pub record IsAnswered (geometry : Geometry) (x : Exchange) : Type 0 where
   pub request : IsRequest x.request
   pub goes_on : is_disc x.request.wanted ≡ false
   pub answer : AnswersBy (refusal geometry x.request.wanted) geometry x.request x.error x.body x.entries x.calls
+      x.ticks
   pub asks : AsksOnly (parts_asked (refusal geometry x.request.wanted) geometry x.request) x.entries
 
 -- the exchanges of a session
@@ -39,6 +42,11 @@ entries_of (x ∷ xs) = x.entries ++ entries_of xs
 abbrev pub calls_of : List Exchange → List Call
 calls_of [] = []
 calls_of (x ∷ xs) = x.calls ++ calls_of xs
+
+-- their ticks
+abbrev pub ticks_of : List Exchange → List Tick
+ticks_of [] = []
+ticks_of (x ∷ xs) = x.ticks ++ ticks_of xs
 
 -- the bytes of their requests, in the order of time
 abbrev pub asking_bytes : List Exchange → List ℕ

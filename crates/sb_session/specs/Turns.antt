@@ -3,6 +3,7 @@ use Rattle.std.specs.Prelude.{ℕ, ◌≡◌, ◌≢◌, ◌≤◌, ◌+◌, ◌
 use Rattle.sb_base.specs.declared.geometry.Geometry.{Geometry}
 use Rattle.sb_base.specs.declared.entry.Entry.{Entry}
 use Rattle.sb_world.specs.Streams.{Takes, Holds, IsAtEnd}
+use Rattle.sb_world.specs.declared.clock.Tick.{Tick}
 use Rattle.sb_world.specs.declared.link.Call.{Call}
 use Rattle.sb_nbd.specs.declared.end.NbdEnd.{NbdEnd}
 use Rattle.sb_nbd.specs.Requests.{Request, request_bytes}
@@ -11,7 +12,8 @@ use Rattle.sb_session.specs.declared.end.SessionEnd.{SessionEnd}
 use Rattle.sb_session.specs.declared.end.SessionEnd.TheVariants.{Disconnected, Ended, Refused, ReadFault, WriteFault}
 use Rattle.sb_session.specs.declared.end.SessionEnd.TheVariants.{Spent}
 use Rattle.sb_session.specs.declared.transmission.TheConstants.{MAX_ANSWERS}
-use Rattle.sb_session.specs.Transcripts.{Exchange, IsTranscript, entries_of, calls_of, asking_bytes, replying_bytes}
+use Rattle.sb_session.specs.Transcripts.{Exchange, IsTranscript, entries_of, calls_of, ticks_of, asking_bytes}
+use Rattle.sb_session.specs.Transcripts.{replying_bytes}
 use Rattle.sb_session.specs.Inputs.{IsDisc}
 use Rattle.sb_session.specs.Handshakes.{end_of}
 
@@ -32,21 +34,21 @@ pub record WritesOut (end : SessionEnd) (replies out : List ℕ) : Type 0 where
 
 -- so many requests were taken and answered
 pub record Serves (geometry : Geometry) (before now held_before held_now : Option (List ℕ))
-    (did : List Entry → List Call → Type 0) (n : ℕ) : Type 0 where
+    (did : List Entry → List Call → List Tick → Type 0) (n : ℕ) : Type 0 where
   pub transcript : List Exchange
   pub count : length transcript ≡ n
   pub answered : IsTranscript geometry transcript
-  pub done : did (entries_of transcript) (calls_of transcript)
+  pub done : did (entries_of transcript) (calls_of transcript) (ticks_of transcript)
   pub taken : Takes before now (asking_bytes transcript)
   pub held : Holds held_before held_now (replying_bytes transcript)
 
 -- so many requests were taken and answered, and then the session ended
 pub record Stopped (geometry : Geometry) (before now held_before held_now : Option (List ℕ))
-    (did : List Entry → List Call → Type 0) (end : SessionEnd) (n : ℕ) : Type 0 where
+    (did : List Entry → List Call → List Tick → Type 0) (end : SessionEnd) (n : ℕ) : Type 0 where
   pub transcript : List Exchange
   pub count : length transcript ≡ n
   pub answered : IsTranscript geometry transcript
-  pub done : did (entries_of transcript) (calls_of transcript)
+  pub done : did (entries_of transcript) (calls_of transcript) (ticks_of transcript)
   pub tail : List ℕ
   pub taken : Takes before now (asking_bytes transcript ++ tail)
   pub stops : StopsBy now tail end
@@ -56,7 +58,7 @@ pub record Stopped (geometry : Geometry) (before now held_before held_now : Opti
 
 -- how one turn ends the session: before a request was answered, or at the writing of its reply
 pub record TurnStops (geometry : Geometry) (before now held_before held_now : Option (List ℕ))
-    (did : List Entry → List Call → Type 0) (end : SessionEnd) : Type 0 where
+    (did : List Entry → List Call → List Tick → Type 0) (end : SessionEnd) : Type 0 where
   pub n : ℕ
   pub within : n ≤ 1
   pub one : n ≡ 1 → end ≡ WriteFault
@@ -65,7 +67,7 @@ pub record TurnStops (geometry : Geometry) (before now held_before held_now : Op
 
 -- one request was answered, or the session ended
 abbrev pub TurnEnds : Geometry → Option (List ℕ) → Option (List ℕ) → Option (List ℕ) → Option (List ℕ)
-    → (List Entry → List Call → Type 0) → Result Unit SessionEnd → Type 0
+    → (List Entry → List Call → List Tick → Type 0) → Result Unit SessionEnd → Type 0
 TurnEnds geometry before now held_before held_now did (Ok done) =
     Serves geometry before now held_before held_now did 1
 TurnEnds geometry before now held_before held_now did (Err end) =
@@ -73,7 +75,7 @@ TurnEnds geometry before now held_before held_now did (Err end) =
 
 -- how the turns of a session end: as spent after as many answers as it may give, with that to the option
 pub record TurnsEnd (geometry : Geometry) (before now held_before held_now : Option (List ℕ))
-    (did : List Entry → List Call → Type 0) (end : SessionEnd) : Type 0 where
+    (did : List Entry → List Call → List Tick → Type 0) (end : SessionEnd) : Type 0 where
   pub n : ℕ
   pub within : n + 1 ≤ MAX_ANSWERS
   pub spent : end ≡ Spent → n + 1 ≡ MAX_ANSWERS

@@ -23,11 +23,11 @@ impl Calls<()> for Bytes {
 
     ghost ready = { λ d k. vec_len d.kept ≡ d.geometry.block_size * d.geometry.blocks };
 
-    ghost did = { λ d k d' k' entries calls. Unit {0} };
+    ghost did = { λ d k d' k' entries calls ticks. Unit {0} };
 
     ghost did_nothing = { λ d k. tt };
 
-    ghost did_both = { λ d k d' k' d'' k'' xs ys us vs first second. tt };
+    ghost did_both = { λ d k d' k' d'' k'' xs ys us vs ss ts first second. tt };
 
     fn geometry(&self) -> Geometry {
         self.geometry

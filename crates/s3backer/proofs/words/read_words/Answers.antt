@@ -8,6 +8,7 @@ returns-in_err-size c =
     rw c.from_residual-in_err-size.ensures
     (no_values (map string_bytes c.args.words.now) (map string_bytes c.in_ok-words.words.now)
     (map string_bytes c.in_ok-words-2.words.now) (map string_bytes c.take_option.result.1.now)
-    (map string_bytes c.take_flag-hashed.result.1.now) (option_copied c.take_option.result.0) c.take_flag-hashed.result.0
+    (map string_bytes c.take_flag-hashed.result.1.now)
+    (option_copied c.take_option.result.0) c.take_flag-hashed.result.0
     c.in_ok-words.ensures c.in_ok-words-2.ensures c.take_option.ensures c.take_flag-hashed.ensures
     c.in_err-size.ensures)

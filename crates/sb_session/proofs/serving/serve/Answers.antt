@@ -6,7 +6,13 @@ pub returns-in-Ok-clause-told : goal.returns-in-Ok-clause-told
 returns-in-Ok-clause-told g c =
     let opened = rw c.geometry.ensures at c.in-Ok.ensures.told in
     let ends = c.transmit.ensures.told in
-    record { entries = _; calls = _; done = ends.stopped.done; course = inr (served _ _ _ _ _ _ _ _ _ _ opened ends) }
+    record {
+      entries = _;
+      calls = _;
+      ticks = _;
+      done = ends.stopped.done;
+      course = inr (served _ _ _ _ _ _ _ _ _ _ opened ends);
+    }
 
 pub returns-in-Err-clause-told : goal.returns-in-Err-clause-told
 returns-in-Err-clause-told g c =
@@ -14,7 +20,8 @@ returns-in-Err-clause-told g c =
     record {
       entries = _;
       calls = _;
+      ticks = _;
       done = g.D.Calls.did_nothing c.args.disk.now c.args.desk.now;
       course =
-          inl (ended, refl, refl);
+          inl (ended, refl, refl, refl);
     }

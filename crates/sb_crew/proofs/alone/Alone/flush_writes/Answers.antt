@@ -15,8 +15,8 @@ turns-init g c = record {
     idle = c.begin_flush-mark.ensures.idle c.requires.ready.idle;
     current = c.begin_flush-mark.ensures.current;
     whole_room = c.as_mut_slice-room.ensures.len ∙ c.requires.ready.whole_room
-        ∙ ap (λ (geometry : Geometry). geometry.block_size) (sym c.begin_flush-mark.ensures.runs.base.geometry);
-    unwindowed = ap (λ (settings : Settings). settings.md5_size) c.begin_flush-mark.ensures.runs.base.settings
+        ∙ ap (λ (geometry : Geometry). geometry.block_size) (sym c.begin_flush-mark.ensures.runs.ran.base.geometry);
+    unwindowed = ap (λ (settings : Settings). settings.md5_size) c.begin_flush-mark.ensures.runs.ran.base.settings
         ∙ c.requires.ready.unwindowed;
   };
 }
@@ -39,6 +39,7 @@ returns-in-Done-clause-did g c =
     record {
       entries = ended.entries;
       calls = ended.calls;
+      ticks = ended.ticks;
       done = ended.done;
       ends = (mark, ended.ends.0);
       asks = ended.asks;
@@ -55,6 +56,7 @@ returns-in_err-store-in-Put-clause-did g c =
     rw (failed.1, failed.2) record {
       entries = ended.entries;
       calls = ended.calls;
+      ticks = ended.ticks;
       done = ended.done;
       ends = (
         mark,

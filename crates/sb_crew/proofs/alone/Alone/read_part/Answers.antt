@@ -14,6 +14,7 @@ turns-init g c = record {
   so_far = record {
     entries = [];
     calls = [];
+    ticks = [];
     done = did_nothing;
     met_so = refl;
     no_bytes = refl;
@@ -55,8 +56,8 @@ turns-preserved-in-Dropped g c =
         idle = c.in-Dropped.ensures.leads.idle;
         current = c.ask_read.ensures.current;
         whole_room = c.ask_read.auto.room ∙ c.turns.invariant.ready.whole_room
-            ∙ ap (λ (geometry : Geometry). geometry.block_size) (sym c.ask_read.ensures.runs.base.geometry);
-        unwindowed = ap (λ (settings : Settings). settings.md5_size) c.ask_read.ensures.runs.base.settings
+            ∙ ap (λ (geometry : Geometry). geometry.block_size) (sym c.ask_read.ensures.runs.ran.base.geometry);
+        unwindowed = ap (λ (settings : Settings). settings.md5_size) c.ask_read.ensures.runs.ran.base.settings
             ∙ c.turns.invariant.ready.unwindowed;
       };
       part = subst (λ (geometry : Geometry). IsPart geometry c.args.part)
@@ -86,7 +87,14 @@ returns-in-Done-clause-did g c =
     (kind.Read c.args.part c.ask_read.new.out)
     (ap (read_entry 1 c.ask_read.new.self.reading c.args.part c.ask_read.new.out c.ask_read.new.room)
     c.in-Done.is) refl refl c.ask_read.ensures.runs in
-    record { entries = ended.entries; calls = ended.calls; done = ended.done; ends = ended.ends; asks = ended.asks }
+    record {
+      entries = ended.entries;
+      calls = ended.calls;
+      ticks = ended.ticks;
+      done = ended.done;
+      ends = ended.ends;
+      asks = ended.asks;
+    }
 
 pub returns-in_err-fetch-in-Get-clause-did : goal.returns-in_err-fetch-in-Get-clause-did
 returns-in_err-fetch-in-Get-clause-did g c =
@@ -98,6 +106,7 @@ returns-in_err-fetch-in-Get-clause-did g c =
     rw (failed.1, failed.2) record {
       entries = ended.entries;
       calls = ended.calls;
+      ticks = ended.ticks;
       done = ended.done;
       ends = ended.ends;
       asks = ended.asks;
@@ -114,6 +123,7 @@ returns-in_err-store-in-Put-clause-did g c =
     rw (failed.1, failed.2) record {
       entries = ended.entries;
       calls = ended.calls;
+      ticks = ended.ticks;
       done = ended.done;
       ends = ended.ends;
       asks = ended.asks;

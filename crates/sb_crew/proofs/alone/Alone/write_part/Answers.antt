@@ -14,6 +14,7 @@ turns-init g c = record {
   so_far = record {
     entries = [];
     calls = [];
+    ticks = [];
     done = did_nothing;
     met_so = refl;
     no_bytes = refl;
@@ -53,8 +54,8 @@ turns-preserved-in-Dropped g c =
         idle = c.in-Dropped.ensures.leads.idle;
         current = c.ask_write.ensures.current;
         whole_room = c.ask_write.auto.room ∙ c.turns.invariant.ready.whole_room
-            ∙ ap (λ (geometry : Geometry). geometry.block_size) (sym c.ask_write.ensures.runs.base.geometry);
-        unwindowed = ap (λ (settings : Settings). settings.md5_size) c.ask_write.ensures.runs.base.settings
+            ∙ ap (λ (geometry : Geometry). geometry.block_size) (sym c.ask_write.ensures.runs.ran.base.geometry);
+        unwindowed = ap (λ (settings : Settings). settings.md5_size) c.ask_write.ensures.runs.ran.base.settings
             ∙ c.turns.invariant.ready.unwindowed;
       };
       part = subst (λ (geometry : Geometry). IsPart geometry c.args.part)
@@ -82,7 +83,14 @@ returns-in-Done-clause-did g c =
     (kind.Write c.args.part c.args.bytes.now)
     (ap (write_entry 1 c.ask_write.new.self.reading c.args.part c.args.bytes.now c.ask_write.new.room)
     c.in-Done.is) refl refl c.ask_write.ensures.runs in
-    record { entries = ended.entries; calls = ended.calls; done = ended.done; ends = ended.ends.0; asks = ended.asks }
+    record {
+      entries = ended.entries;
+      calls = ended.calls;
+      ticks = ended.ticks;
+      done = ended.done;
+      ends = ended.ends.0;
+      asks = ended.asks;
+    }
 
 pub returns-in_err-fetch-in-Get-clause-did : goal.returns-in_err-fetch-in-Get-clause-did
 returns-in_err-fetch-in-Get-clause-did g c =
@@ -94,6 +102,7 @@ returns-in_err-fetch-in-Get-clause-did g c =
     rw (failed.1, failed.2) record {
       entries = ended.entries;
       calls = ended.calls;
+      ticks = ended.ticks;
       done = ended.done;
       ends = ended.ends;
       asks = ended.asks;
@@ -110,6 +119,7 @@ returns-in_err-store-in-Put-clause-did g c =
     rw (failed.1, failed.2) record {
       entries = ended.entries;
       calls = ended.calls;
+      ticks = ended.ticks;
       done = ended.done;
       ends = ended.ends;
       asks = ended.asks;

@@ -12,6 +12,7 @@ returns-in-None-clause-did c = record {
       record { pass = 1; reading = 0; kind = kind.FlushDone 0 }
       ∷ record { pass = 1; reading = 0; kind = kind.FlushBegin 0 } ∷ [];
   calls = [];
+  ticks = [];
   done = tt;
   ends = (0, refl);
   asks = record { asked = tt };
@@ -22,6 +23,7 @@ returns-in-Some-clause-did c = record {
   ends = (0, record { missing = flush_of 0; some = omega arith; met = refl; cause = (tt, refl) });
   entries = record { pass = 1; reading = 0; kind = kind.GetEnd 0 shown.Failed None false } ∷ [];
   calls = call.Get [] None (get.Fault (link_fault c.in-Some.fault)) ∷ [];
+  ticks = [];
   done = tt;
   asks = record { asked = tt };
 }

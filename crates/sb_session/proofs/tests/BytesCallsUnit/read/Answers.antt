@@ -10,6 +10,7 @@ pub returns-in-None-clause-did : goal.returns-in-None-clause-did
 returns-in-None-clause-did c = record {
   entries = record { pass = 1; reading = 0; kind = kind.Read c.args.part _ } ∷ [];
   calls = [];
+  ticks = [];
   done =
       tt;
   ends = (refl, refl);
@@ -20,6 +21,7 @@ pub returns-in-Some-clause-did : goal.returns-in-Some-clause-did
 returns-in-Some-clause-did c = record {
   entries = record { pass = 1; reading = 0; kind = kind.GetEnd c.args.part.block shown.Failed None false } ∷ [];
   calls = call.Get [] None (get.Fault (link_fault c.in-Some.fault)) ∷ [];
+  ticks = [];
   done = tt;
   ends = (refl, (tt, refl));
   asks = record { asked = tt };

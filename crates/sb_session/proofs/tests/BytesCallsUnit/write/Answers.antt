@@ -10,6 +10,7 @@ pub returns-in-None-clause-did : goal.returns-in-None-clause-did
 returns-in-None-clause-did c = record {
   entries = record { pass = 1; reading = 0; kind = kind.Write c.args.part c.args.bytes.now } ∷ [];
   calls = [];
+  ticks = [];
   done = tt;
   ends = refl;
   asks = record { asked = tt };
@@ -20,6 +21,7 @@ returns-in-Some-clause-did c = record {
   ends = (refl, (tt, refl));
   entries = record { pass = 1; reading = 0; kind = kind.GetEnd c.args.part.block shown.Failed None false } ∷ [];
   calls = call.Get [] None (get.Fault (link_fault c.in-Some.fault)) ∷ [];
+  ticks = [];
   done = tt;
   asks = record { asked = tt };
 }
