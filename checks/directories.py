@@ -4,7 +4,7 @@
 What one run flushed has to be there in the next, also where the first was killed. The client here is independent of the
 program; a library for NBD is used beside it where it is installed.
 """
-import hashlib, os, random, shutil, subprocess, sys, tempfile
+import hashlib, os, random, shutil, subprocess, sys, tempfile, threading, time
 
 program = os.path.abspath(sys.argv[1])
 OPEN = bytes.fromhex("00000003 49484156454f5054 00000001 00000000")
@@ -98,7 +98,7 @@ def several_runs(top, prefix, hashed):
 
     def fill(client, count):
         for _ in range(count):
-            length = choice.choice([1, 512, BLOCK, 2 * BLOCK, 10000, 131072])
+            length = choice.choice([1, 512, BLOCK, 2 * BLOCK, 10000, 32768])
             offset = choice.randrange(len(disk) - length)
             body = choice.choice([choice.randbytes(length), bytes(length)])
             expect("a write", client.write(offset, body), 0)
@@ -106,19 +106,19 @@ def several_runs(top, prefix, hashed):
 
     client = Client("4m", directory, *options)
     expect("the size", client.size, len(disk))
-    fill(client, 60)
+    fill(client, 15)
     expect("a flush", client.flush(), 0)
     expect(f"the files after a flush, {kind}", files_in(directory), names_of(disk, prefix, hashed))
     expect("the end", client.end(), (0, b""))
 
     client = Client("4m", directory, *options)
     expect(f"the next run, {kind}", client.read(0, len(disk)) == (0, bytes(disk)), True)
-    fill(client, 60)
+    fill(client, 15)
     expect("the end without a flush", client.end(), (0, b""))
 
     client = Client("4m", directory, *options)
     expect(f"what the last flush put, {kind}", client.read(0, len(disk)) == (0, bytes(disk)), True)
-    fill(client, 60)
+    fill(client, 15)
     expect("a flush", client.flush(), 0)
     flushed, later = bytes(disk), bytes([1]) * BLOCK
     expect("a write that isn't flushed", client.write(0, later), 0)
@@ -164,6 +164,50 @@ def faults(top):
     expect("its end", client.end(), (3, b"s3backer: store fault 605\n"))
 
 
+def spaced_puts(top):
+    """Two puts of one block are at least 500 ms apart."""
+    client = Client("64k", os.path.join(top, "spaced"))
+    client.write(0, b"A" * BLOCK)
+    asked = time.monotonic()
+    expect("a flush", client.flush(), 0)
+    client.write(0, b"B" * BLOCK)
+    expect("a flush soon after", client.flush(), 0)
+    expect("the puts are 500 ms apart", time.monotonic() - asked >= 0.5, True)
+    expect("the end", client.end(), (0, b""))
+
+
+def old_versions(top):
+    """A block's file is made an old one behind the program's back: for a while, and then for good."""
+    directory = os.path.join(top, "stale")
+    path = os.path.join(directory, "00000000")
+    client = Client("64k", directory)
+    client.write(0, b"A" * BLOCK)
+    expect("a flush", client.flush(), 0)
+    old = open(path, "rb").read()
+    client.write(0, b"B" * BLOCK)
+    expect("a flush", client.flush(), 0)
+    new = open(path, "rb").read()
+    expect("the versions", (old, new), (b"A" * BLOCK, b"B" * BLOCK))
+
+    def show(body):
+        with open(path + ".other", "wb") as other:
+            other.write(body)
+        os.rename(path + ".other", path)
+
+    expect("another block", client.read(BLOCK, 1), (0, b"\0"))
+    show(old)
+    later = threading.Timer(0.35, show, [new])
+    later.start()
+    expect("a block whose store shows an old version for a while", client.read(0, BLOCK), (0, new))
+    later.join()
+    expect("another block", client.read(BLOCK, 1), (0, b"\0"))
+    show(old)
+    begun = time.monotonic()
+    expect("a block whose store shows an old version for good", client.read(0, BLOCK), (5, b""))
+    expect("it was asked anew for seconds", 2 < time.monotonic() - begun < 7, True)
+    expect("the end", client.end(), (0, b""))
+
+
 def by_a_library(top):
     """The same disk by libnbd, where a Python has it."""
     for python in ("python3", "/usr/bin/python3"):
@@ -196,6 +240,8 @@ try:
     several_runs(os.path.join(top, "prefixed"), "p+", False)
     several_runs(os.path.join(top, "hashed"), "disk.", True)
     faults(top)
+    spaced_puts(top)
+    old_versions(top)
     by_a_library(top)
 finally:
     shutil.rmtree(top)

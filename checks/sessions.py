@@ -1,6 +1,6 @@
 #!/usr/bin/env python3
 """Runs sessions of the built program and compares bytes, statuses and peak memory. Usage: sessions.py PROGRAM"""
-import os, random, shutil, subprocess, sys, tempfile
+import concurrent.futures, os, random, shutil, subprocess, sys, tempfile
 
 program = sys.argv[1]
 memory = "/dev/shm" if os.access("/dev/shm", os.W_OK) else None
@@ -178,9 +178,14 @@ def random_session(seed, size, count):
     return bytes(given + DISC), bytes(wanted)
 
 
-for seed in range(6):
-    given, wanted = random_session(seed, 65536, 1000)
-    expect(f"the random session {seed}", run(SMALL, given) == (0, wanted, b""), True)
+def holds(seed):
+    given, wanted = random_session(seed, 65536, 120)
+    return run(SMALL, given) == (0, wanted, b"")
+
+
+with concurrent.futures.ThreadPoolExecutor() as pool:
+    for seed, held in enumerate(pool.map(holds, range(16))):
+        expect(f"the random session {seed}", held, True)
 
 
 def peak(size):

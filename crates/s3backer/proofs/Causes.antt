@@ -16,7 +16,7 @@ use Rattle.sb_nbd.specs.declared.request.TheConstants.{MAX_PAYLOAD}
 use Rattle.sb_nbd.specs.Requests.{Request}
 use Rattle.sb_nbd.specs.declared.reply.TheConstants.{EINVAL, ENOSPC, EIO, ENOMEM}
 use Rattle.sb_crew.specs.declared.calls.CallFault.{CallFault}
-use Rattle.sb_crew.specs.declared.calls.CallFault.TheVariants.{StoreFault, Memory}
+use Rattle.sb_crew.specs.declared.calls.CallFault.TheVariants.{StoreFault, Memory, StaleRead, ClockStalled}
 use Rattle.sb_crew.specs.Outcomes.{Outcome, HasCause, Stops, FlushEnds}
 use Rattle.sb_crew.specs.Counts.{is_failure, failures, Counts}
 use Rattle.sb_crew.specs.Joins.{failures_join}
@@ -26,7 +26,7 @@ use Rattle.sb_session.specs.Goals.{refusal, passes_end, goal_of, body_of}
 use Rattle.sb_session.specs.Answers.{AnswersBy, IsAnswer, error_of}
 use Rattle.sb_session.specs.Transcripts.{Exchange, IsTranscript, calls_of}
 use Rattle.sb_session.specs.Sessions.{Served}
-use Rattle.s3backer.specs.Headline.{flush_status, run_status, NoneFailed}
+use Rattle.s3backer.specs.Headline.{flush_status, run_status, NoneFailed, FailsByTime}
 
 -- a sum of nothing has nothing in it
 sum_nothing : (m n : ℕ) → m + n ≡ 0 → (m ≡ 0) × (n ≡ 0)
@@ -99,16 +99,21 @@ none_is_other is = absurd (omega (arith, is))
 -- the reply to a request none of whose calls failed
 number_otherwise : (fault : CallFault) (goal : List Outcome) (entries : List Entry) (calls : List Call)
     (ticks : List Tick) (error : ℕ) → Stops goal entries calls ticks fault
-    → error ≡ error_of fault → failures calls ≡ 0 → error ≢ EIO
+    → error ≡ error_of fault → failures calls ≡ 0 → (error ≢ EIO) ⊎ FailsByTime entries calls ticks
 number_otherwise (StoreFault status) goal entries calls ticks error stops is none =
     absurd (cause_fails status entries calls ticks stops.cause none)
 number_otherwise Memory goal entries calls ticks error stops is none =
-    subst (λ (n : ℕ). n ≢ EIO) (sym is) memory_is_other
+    inl (subst (λ (n : ℕ). n ≢ EIO) (sym is) memory_is_other)
+number_otherwise (StaleRead block expected shown begun) goal entries calls ticks error stops is none =
+    inr (record { fault = StaleRead block expected shown begun; of_time = tt; cause = stops.cause })
+number_otherwise (ClockStalled before asked after) goal entries calls ticks error stops is none =
+    inr (record { fault = ClockStalled before asked after; of_time = tt; cause = stops.cause })
 
 answer_otherwise : (goal : List Outcome) (bytes : List ℕ) (entries : List Entry) (calls : List Call) (ticks : List Tick)
-    (error : ℕ) (body : List ℕ) → failures calls ≡ 0 → IsAnswer goal bytes entries calls ticks error body → error ≢ EIO
-answer_otherwise goal bytes entries calls ticks error body none (inl done) = subst (λ (n : ℕ). n ≢ EIO)
-    (sym done.no_error) none_is_other
+    (error : ℕ) (body : List ℕ) → failures calls ≡ 0 → IsAnswer goal bytes entries calls ticks error body
+    → (error ≢ EIO) ⊎ FailsByTime entries calls ticks
+answer_otherwise goal bytes entries calls ticks error body none (inl done) =
+    inl (subst (λ (n : ℕ). n ≢ EIO) (sym done.no_error) none_is_other)
 answer_otherwise goal bytes entries calls ticks error body none (inr failed) =
     number_otherwise failed.fault goal entries calls ticks error failed.stops failed.number none
 
@@ -116,15 +121,15 @@ reply_otherwise : (refused : Option ℕ) → IsOther refused
     → (geometry : Geometry) (r : Request) (error : ℕ) (body : List ℕ)
     (entries : List Entry) (calls : List Call) (ticks : List Tick) → failures calls ≡ 0
     → AnswersBy refused geometry r error body entries calls ticks
-    → error ≢ EIO
+    → (error ≢ EIO) ⊎ FailsByTime entries calls ticks
 reply_otherwise (Some code) other geometry r error body entries calls ticks none answer =
-    subst (λ (n : ℕ). n ≢ EIO) (sym answer.number) other.code
+    inl (subst (λ (n : ℕ). n ≢ EIO) (sym answer.number) other.code)
 reply_otherwise None other geometry r error body entries calls ticks none answer =
     answer_otherwise (goal_of geometry r answer.0) (body_of r.wanted entries) entries calls ticks error body none
     answer.1
 
 replies_otherwise : (geometry : Geometry) (xs : List Exchange) → failures (calls_of xs) ≡ 0 → IsTranscript geometry xs
-    → AllByRecursion (λ x. x.error ≢ EIO) xs
+    → AllByRecursion (λ x. (x.error ≢ EIO) ⊎ FailsByTime x.entries x.calls x.ticks) xs
 replies_otherwise geometry [] none answered = tt
 replies_otherwise geometry (x ∷ xs) none answered =
     let parts = sum_nothing (failures x.calls) (failures (calls_of xs))
@@ -148,22 +153,26 @@ none_failed {geometry} {calls = calls} (inr served) faults faults' flush_calls q
     let parts = sum_nothing (failures flush_calls) (failures calls) (sym (failures_join flush_calls calls) ∙ none) in
     replies_otherwise geometry served.transcript (ap failures (sym served.calls_are) ∙ parts.1) served.answered
 
--- a flush none of whose calls failed ended well, or lacked memory
+-- a flush none of whose calls failed ended well, or lacked memory, or its clock stood still
 flushed_well : (flushed : Result Unit CallFault) (entries : List Entry) (calls : List Call) (ticks : List Tick)
     → FlushEnds flushed entries calls ticks
-    → failures calls ≡ 0 → (flush_status flushed ≡ 0) ⊎ (flush_status flushed ≡ 12)
+    → failures calls ≡ 0 → (flush_status flushed ≡ 0) ⊎ ((flush_status flushed ≡ 12) ⊎ (flush_status flushed ≡ 11))
 flushed_well (Ok done) entries calls ticks ends none = inl refl
 flushed_well (Err (StoreFault status)) entries calls ticks ends none = absurd
     (cause_fails status entries calls ticks ends.1.cause none)
-flushed_well (Err Memory) entries calls ticks ends none = inr refl
+flushed_well (Err Memory) entries calls ticks ends none = inr (inl refl)
+flushed_well (Err (ClockStalled before asked after)) entries calls ticks ends none = inr (inr refl)
+flushed_well (Err (StaleRead block expected shown begun)) entries calls ticks ends none = absurd ends.2
 
--- without any fault, and of an input that isn't refused and isn't too long, a run ends well or lacks memory
+-- without any fault, and of an input that isn't refused and isn't too long, a run ends well or lacks memory, or its
+-- clock stands still
 pub ended_well : (ended : SessionEnd) (flushed : Result Unit CallFault) (entries : List Entry)
     (calls flush_calls : List Call) (flush_ticks : List Tick)
     (faults faults' : ℕ) {Read Written : Type 0} → FlushEnds flushed entries flush_calls flush_ticks
     → (Rose faults faults' → ⊥) → Counts faults faults' (flush_calls ++ calls)
     → (ended ≡ end.ReadFault → Read) → (ended ≡ end.WriteFault → Written) → (Read → ⊥) → (Written → ⊥)
-    → ended ≢ end.Refused → ended ≢ end.Spent → (run_status ended flushed ≡ 0) ⊎ (run_status ended flushed ≡ 12)
+    → ended ≢ end.Refused → ended ≢ end.Spent → (run_status ended flushed ≡ 0)
+    ⊎ ((run_status ended flushed ≡ 12) ⊎ (run_status ended flushed ≡ 11))
 ended_well ended flushed entries calls flush_calls flush_ticks faults faults' {Read = Read}
     {Written = Written} ends quiet counts at_read
     at_write read written refused spent =
@@ -174,7 +183,7 @@ ended_well ended flushed entries calls flush_calls flush_ticks faults faults' {R
 
       by : (e : SessionEnd) → (e ≡ end.ReadFault → Read) → (e ≡ end.WriteFault → Written) → e ≢ end.Refused
           → e ≢ end.Spent
-          → (run_status e flushed ≡ 0) ⊎ (run_status e flushed ≡ 12)
+          → (run_status e flushed ≡ 0) ⊎ ((run_status e flushed ≡ 12) ⊎ (run_status e flushed ≡ 11))
       by end.Disconnected at_read at_write refused spent = flushed_well flushed entries flush_calls
           flush_ticks ends none
       by end.Ended at_read at_write refused spent = flushed_well flushed entries flush_calls

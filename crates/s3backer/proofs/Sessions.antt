@@ -10,12 +10,15 @@ use Rattle.sb_world.specs.declared.link.Call.{Call}
 use Rattle.sb_history.specs.AccessRules.{FollowsAccessRules}
 use Rattle.sb_history.specs.CachePolicy.{FollowsCachePolicy}
 use Rattle.sb_history.specs.ClockTrace.{ClockTrace}
-use Rattle.sb_history.specs.Laws.{UnwindowedIsLegal, UnwindowedFlushes, UnwindowedSurvivesCrash}
+use Rattle.sb_history.specs.Laws.{SoundIsLegal, SoundFlushes, SoundSurvivesCrash}
+use Rattle.sb_history.specs.Contents.{Start}
+use Rattle.sb_history.specs.Visibility.{Delays}
+use Rattle.sb_history.specs.Soundness.{IsSoundHistory}
 use Rattle.sb_history.specs.Requests.{RequestLog}
 use Rattle.sb_core.specs.declared.machine.Core.{Core}
 use Rattle.sb_core.specs.Represents.{Represents, geometry_of, nothing_found}
 use Rattle.sb_crew.specs.declared.calls.CallFault.{CallFault}
-use Rattle.sb_crew.specs.declared.calls.CallFault.TheVariants.{StoreFault, Memory}
+use Rattle.sb_crew.specs.declared.calls.CallFault.TheVariants.{StoreFault, Memory, StaleRead, ClockStalled}
 use Rattle.sb_crew.specs.Outcomes.{Outcome, outcomes_of, FlushEnds, FlushDoes}
 use Rattle.sb_crew.specs.Names.{Naming, name_of}
 use Rattle.sb_crew.specs.Runs.{Did, only_caller}
@@ -29,13 +32,13 @@ use Rattle.s3backer.proofs.Causes.{none_failed, ended_well}
 use Rattle.s3backer.specs.declared.settings.TheConstants.{SETTINGS}
 use Rattle.s3backer.specs.Fresh.{IsFresh}
 use Rattle.s3backer.specs.Plans.{PlanParts, naming_of}
-use Rattle.s3backer.specs.Headline.{IsHistory, IsSaved, ServesSession, run_status, run_line, ComplainsOf}
+use Rattle.s3backer.specs.Headline.{IsWithin, IsHistory, IsSaved, ServesSession, run_status, run_line, ComplainsOf}
 
 -- what was done to a fresh core under the plan's names is a disk's history
 history_of : (plan : PlanParts) (names names' : Naming) (core core' : Core) (tape tape' : Option (List Entry))
     (log log' : Option (List Call)) (faults faults' : ℕ) (clock clock' : Option (List Tick)) (entries : List Entry)
-    (calls : List Call) (ticks : List Tick) → UnwindowedIsLegal → UnwindowedFlushes
-    → UnwindowedSurvivesCrash → IsFresh plan.geometry core → names ≡ naming_of plan
+    (calls : List Call) (ticks : List Tick) → SoundIsLegal → SoundFlushes
+    → SoundSurvivesCrash → IsFresh plan.geometry core → names ≡ naming_of plan
     → Did names names' core core' tape tape' log log' faults faults' clock clock' entries calls ticks
     → IsHistory plan tape tape' log log' clock clock' entries calls ticks
 history_of plan names names' core core' tape tape' log log' faults faults' clock clock' entries calls ticks legal
@@ -48,6 +51,15 @@ history_of plan names names' core core' tape tape' log log' faults faults' clock
     (subst (λ (g : Geometry). FollowsAccessRules g core'.settings nothing_found entries) shape after.rules) in
     let policy = subst (λ (s : Settings). FollowsCachePolicy plan.geometry s nothing_found entries) set
     (subst (λ (g : Geometry). FollowsCachePolicy g core'.settings nothing_found entries) shape after.policy) in
+    let sound : (start : Start) (delays : Delays) → IsWithin plan.geometry start delays entries
+    → IsSoundHistory plan.geometry SETTINGS nothing_found start delays entries = λ start delays within. record {
+      sized = within.sized;
+      covers = within.covers;
+      rules = rules;
+      policy = policy;
+      stale_within = within.stale_within;
+      collision_free = within.collision_free;
+    } in
     record {
       of_pass = did.runs.of_pass;
       tape = did.runs.told;
@@ -60,33 +72,12 @@ history_of plan names names' core core' tape tape' log log' faults faults' clock
           fresh.geometry_is (did.runs.trace [] tt fresh.represents));
       rules = rules;
       policy = policy;
-      legal = λ start sized latest. legal plan.geometry SETTINGS nothing_found start entries
-          (record {
-            sized = sized;
-            off = refl;
-            nothing = λ block. refl;
-            rules = rules;
-            policy = policy;
-            latest = latest;
-          });
-      durable = λ start sized latest. flushes plan.geometry SETTINGS nothing_found start entries
-          (record {
-            sized = sized;
-            off = refl;
-            nothing = λ block. refl;
-            rules = rules;
-            policy = policy;
-            latest = latest;
-          });
-      survives = λ start sized latest. survives plan.geometry SETTINGS nothing_found start entries
-          (record {
-            sized = sized;
-            off = refl;
-            nothing = λ block. refl;
-            rules = rules;
-            policy = policy;
-            latest = latest;
-          });
+      legal = λ start delays within.
+          legal plan.geometry SETTINGS nothing_found start delays entries (sound start delays within);
+      durable = λ start delays within.
+          flushes plan.geometry SETTINGS nothing_found start delays entries (sound start delays within);
+      survives = λ start delays within.
+          survives plan.geometry SETTINGS nothing_found start delays entries (sound start delays within);
     }
 
 -- a flush that ended well, and the entries before it
@@ -108,8 +99,12 @@ flushed_at_zero end.Disconnected (Ok done) zero = refl
 flushed_at_zero end.Ended (Ok done) zero = refl
 flushed_at_zero end.Disconnected (Err (StoreFault status)) zero = absurd (cc)
 flushed_at_zero end.Disconnected (Err Memory) zero = absurd (cc)
+flushed_at_zero end.Disconnected (Err (StaleRead block expected shown begun)) zero = absurd (cc)
+flushed_at_zero end.Disconnected (Err (ClockStalled before asked after)) zero = absurd (cc)
 flushed_at_zero end.Ended (Err (StoreFault status)) zero = absurd (cc)
 flushed_at_zero end.Ended (Err Memory) zero = absurd (cc)
+flushed_at_zero end.Ended (Err (StaleRead block expected shown begun)) zero = absurd (cc)
+flushed_at_zero end.Ended (Err (ClockStalled before asked after)) zero = absurd (cc)
 flushed_at_zero end.Refused flushed zero = absurd (cc)
 flushed_at_zero end.ReadFault flushed zero = absurd (cc)
 flushed_at_zero end.WriteFault flushed zero = absurd (cc)
@@ -122,7 +117,7 @@ pub session_serves : {L C R S : Type 0} (log : L → Option (List Call)) (link_f
     (core mid core' : Core) (link link1 link' : L) (clock clock1 clock' : C) (input input' : R)
     (output output' errors errors' : S) (tape tape1 tape' : Option (List Entry)) (ended : SessionEnd)
     (flushed : Result Unit CallFault) (status : ℕ)
-    → UnwindowedIsLegal → UnwindowedFlushes → UnwindowedSurvivesCrash → IsFresh plan.geometry core
+    → SoundIsLegal → SoundFlushes → SoundSurvivesCrash → IsFresh plan.geometry core
     → names ≡ naming_of plan
     → SessionTold (geometry_of core) TRANSMISSION_FLAGS (left input) (left input') (held output) (held output')
     (Did names names1 core mid tape tape1 (log link) (log link1) (link_faults link) (link_faults link1) (ticks clock)
@@ -166,7 +161,7 @@ session_serves log link_faults ticks left read_faults held write_faults plan nam
       no_failed_reply = λ quiet. none_failed course (link_faults link)
           (link_faults link') flush.calls quiet did.asked.counted;
       ends_well = λ quiet read written refused spent.
-          subst (λ (n : ℕ). (n ≡ 0) ⊎ (n ≡ 12)) (sym status_is)
+          subst (λ (n : ℕ). (n ≡ 0) ⊎ ((n ≡ 12) ⊎ (n ≡ 11))) (sym status_is)
           (ended_well ended flushed flush.entries told.calls flush.calls flush.ticks (link_faults link)
           (link_faults link') flush.ends quiet
           did.asked.counted read_cause.rises write_cause.rises read written refused spent);

@@ -14,6 +14,8 @@ use Rattle.sb_history.specs.Contents.{Start, FillBlocks}
 use Rattle.sb_history.specs.Values.{IsLegal}
 use Rattle.sb_history.specs.Visibility.{Delays, IsStaleWithin}
 use Rattle.sb_history.specs.Durability.{FlushesAreDurable, IsCrashDurable}
+use Rattle.sb_history.specs.Window.{CoversDelays}
+use Rattle.sb_history.specs.Soundness.{IsCollisionFree}
 use Rattle.sb_history.specs.Passes.{IsOfPass}
 use Rattle.sb_history.specs.Requests.{RequestLog}
 use Rattle.sb_history.specs.ClockTrace.{ClockTrace}
@@ -22,8 +24,8 @@ use Rattle.sb_history.specs.CachePolicy.{FollowsCachePolicy}
 use Rattle.sb_core.specs.Represents.{nothing_found}
 use Rattle.sb_crew.specs.Names.{name_of}
 use Rattle.sb_crew.specs.declared.calls.CallFault.{CallFault}
-use Rattle.sb_crew.specs.declared.calls.CallFault.TheVariants.{StoreFault, Memory}
-use Rattle.sb_crew.specs.Outcomes.{Outcome, outcomes_of, flush_of, FlushEnds, AsksOnly}
+use Rattle.sb_crew.specs.declared.calls.CallFault.TheVariants.{StoreFault, Memory, StaleRead, ClockStalled}
+use Rattle.sb_crew.specs.Outcomes.{Outcome, outcomes_of, flush_of, FlushEnds, AsksOnly, HasCause}
 use Rattle.sb_crew.specs.Counts.{Counts}
 use Rattle.sb_crew.specs.Runs.{only_caller, sizes_of}
 use Rattle.sb_session.specs.declared.end.SessionEnd.{SessionEnd}
@@ -39,25 +41,25 @@ use Rattle.s3backer.specs.Plans.{PlanParts, naming_of}
 use Rattle.s3backer.specs.Words.{IsTaken, IsRefused}
 use Rattle.s3backer.specs.declared.words.Usage.{Usage}
 
--- a store that shows the latest versions, and keeps the order of puts
-abbrev pub at_once : Delays
-at_once = record { order = 0; show = 0 }
-
 -- the line that tells a fault of the store
 abbrev pub store_fault_line : ℕ → List ℕ
 store_fault_line status = codes "s3backer: store fault " ++ decimal status ++ 10 ∷ []
 
--- the status of the flush after a session
+-- the status of the flush after a session, which is never stale
 abbrev pub flush_status : Result Unit CallFault → ℕ
 flush_status (Ok done) = 0
 flush_status (Err (StoreFault status)) = 3
 flush_status (Err Memory) = 12
+flush_status (Err (ClockStalled before asked after)) = 11
+flush_status (Err (StaleRead block expected shown begun)) = 3
 
 -- the line that tells its fault
 abbrev pub flush_line : Result Unit CallFault → Option (List ℕ)
 flush_line (Ok done) = None
 flush_line (Err (StoreFault status)) = Some (store_fault_line status)
 flush_line (Err Memory) = Some (codes "s3backer: out of memory\n")
+flush_line (Err (ClockStalled before asked after)) = Some (codes "s3backer: clock stands still\n")
+flush_line (Err (StaleRead block expected shown begun)) = None
 
 -- the status of a session's end and the flush after it: that of the first fault
 abbrev pub run_status : SessionEnd → Result Unit CallFault → ℕ
@@ -91,10 +93,16 @@ abbrev pub ComplainsOf : Option (List ℕ) → Option (List ℕ) → Option (Lis
 ComplainsOf None held held' faults faults' = held' ≡ held
 ComplainsOf (Some line) held held' faults faults' = Complains held held' faults faults' line
 
--- a disk's history: what its tape, the link's log and the clock gained, the rules that it follows, and, over every
--- store
--- that shows the latest versions, that each read is that of a register, that each flush that is done has saved what was
--- written before it, and what a crash leaves at any moment
+-- the store shows old versions and keeps puts apart only within delays that the settings cover, and no MD5s collide
+pub record IsWithin (geometry : Geometry) (start : Start) (delays : Delays) (entries : List Entry) : Type 0 where
+  pub sized : FillBlocks geometry.block_size start
+  pub covers : CoversDelays SETTINGS delays
+  pub stale_within : IsStaleWithin geometry.block_size start delays entries
+  pub collision_free : IsCollisionFree geometry.block_size start nothing_found entries
+
+-- a disk's history: what its tape, the link's log and the clock gained, the rules that it follows, and, from every
+-- start and over every store that is within delays, that each read is that of a register, that each flush that is done
+-- has saved what was written before it, and what a crash leaves at any moment
 pub record IsHistory (plan : PlanParts) (told told' : Option (List Entry)) (log log' : Option (List Call))
     (ticks ticks' : Option (List Tick)) (entries : List Entry) (calls : List Call) (readings : List Tick) : Type 0 where
   pub of_pass : IsOfPass 1 entries
@@ -105,19 +113,32 @@ pub record IsHistory (plan : PlanParts) (told told' : Option (List Entry)) (log 
   pub trace : ClockTrace plan.geometry SETTINGS only_caller [] entries None readings
   pub rules : FollowsAccessRules plan.geometry SETTINGS nothing_found entries
   pub policy : FollowsCachePolicy plan.geometry SETTINGS nothing_found entries
-  pub legal : (start : Start) → FillBlocks plan.geometry.block_size start
-      → IsStaleWithin plan.geometry.block_size start at_once entries → IsLegal start entries
-  pub durable : (start : Start) → FillBlocks plan.geometry.block_size start
-      → IsStaleWithin plan.geometry.block_size start at_once entries → FlushesAreDurable start entries
-  pub survives : (start : Start) → FillBlocks plan.geometry.block_size start
-      → IsStaleWithin plan.geometry.block_size start at_once entries → IsCrashDurable start entries
+  pub legal : (start : Start) (delays : Delays) → IsWithin plan.geometry start delays entries → IsLegal start entries
+  pub durable : (start : Start) (delays : Delays) → IsWithin plan.geometry start delays entries
+      → FlushesAreDurable start entries
+  pub survives : (start : Start) (delays : Delays) → IsWithin plan.geometry start delays entries
+      → IsCrashDurable start entries
 
--- no reply of a session has the error of a store that failed
+-- a call fails so for what the clock gave, or for a version that a store showed, and not for a fault of the store
+abbrev pub IsOfTime : CallFault → Type 0
+IsOfTime (StoreFault status) = ⊥
+IsOfTime Memory = ⊥
+IsOfTime (StaleRead block expected shown begun) = Unit {0}
+IsOfTime (ClockStalled before asked after) = Unit {0}
+
+-- a request with these entries, calls of the link and ticks failed so
+pub record FailsByTime (entries : List Entry) (calls : List Call) (ticks : List Tick) : Type 0 where
+  pub fault : CallFault
+  pub of_time : IsOfTime fault
+  pub cause : HasCause fault entries calls ticks
+
+-- no reply of a session has the error of a store that failed, but for a stale read or a clock that stands still
 abbrev pub NoneFailed : {geometry : Geometry} {transmission : ℕ} {before now held_before held_now : Option (List ℕ)}
     {ended : SessionEnd} {entries : List Entry} {calls : List Call} {session_ticks : List Tick} {Unserved : Type 0}
     → Unserved ⊎ Served geometry transmission before now held_before held_now ended entries calls session_ticks → Type 0
 NoneFailed (inl unserved) = Unit {0}
-NoneFailed (inr served) = AllByRecursion (λ x. x.error ≢ EIO) served.transcript
+NoneFailed (inr served) =
+    AllByRecursion (λ x. (x.error ≢ EIO) ⊎ FailsByTime x.entries x.calls x.ticks) served.transcript
 
 -- over any links, clocks, sources and sinks, by what they tell and their counts of faults
 module _ {L C R S : Type 0} (log : L → Option (List Call)) (link_faults : L → ℕ) (ticks : C
@@ -154,11 +175,12 @@ module _ {L C R S : Type 0} (log : L → Option (List Call)) (link_faults : L �
     pub saved : status ≡ 0 → IsSaved (flush_entries ++ entries)
     -- without a fault of the store no reply tells one
     pub no_failed_reply : (Rose (link_faults link) (link_faults link') → ⊥) → NoneFailed course
-    -- without any fault, and of an input that isn't refused and isn't too long, the run ends well or lacks memory
+    -- without any fault, and of an input that isn't refused and isn't too long, the run ends well or lacks memory, or
+    -- its clock stands still
     pub ends_well : (Rose (link_faults link) (link_faults link') → ⊥)
         → (Rose (read_faults input) (read_faults input') → ⊥)
         → (Rose (write_faults output) (write_faults output') → ⊥) → ended ≢ end.Refused → ended ≢ end.Spent
-        → (status ≡ 0) ⊎ (status ≡ 12)
+        → (status ≡ 0) ⊎ ((status ≡ 12) ⊎ (status ≡ 11))
 
   -- want of memory came before the session: nothing was asked, read or written but the line that tells it
   pub record LacksMemory (link link' : L) (clock clock' : C) (input input' : R)

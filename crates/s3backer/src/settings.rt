@@ -2,12 +2,13 @@
 
 use sb_base::Settings;
 
-/// The settings of every disk: a cache of one block and no MD5 window, so that puts aren't spaced. The other values
-/// have no effect yet.
+/// The settings of every disk: puts of a block are 500 ms apart, and the MD5s of the last 10,000 blocks that were put
+/// are kept for 10 s. The cache has one block. The values from `write_delay` on have no effect yet, but for
+/// `stale_limit`.
 pub const SETTINGS: Settings = Settings {
-    min_write_delay: 0,
-    md5_time: 0,
-    md5_size: 0,
+    min_write_delay: 500,
+    md5_time: 10_000,
+    md5_size: 10_000,
     cache_size: 1,
     write_delay: 250,
     clean_time: 0,

@@ -1,10 +1,12 @@
 //! The top call.
 
-ghost use Rattle.std.specs.Prelude.{◌≡◌, ◌≤◌, ◌<◌, ◌∷◌, [], ◌⊎◌, IfSome, IfOk, codes, length, List, map, string_bytes};
+ghost use Rattle.std.specs.Prelude.{◌≡◌, ◌≤◌, ◌<◌, ◌∷◌, [], ◌⊎◌, IfSome, IfOk, IfErr, codes, length, List, map};
+ghost use Rattle.std.specs.Prelude.{string_bytes};
 ghost use Rattle.sb_world.specs.Told.{Gains, Rose};
 ghost use Rattle.sb_base.specs.Shapes.{IsSound};
 ghost use Rattle.sb_core.specs.Represents.{geometry_of};
 ghost use Rattle.sb_crew.specs.Desks.{HasRoom};
+ghost use Rattle.sb_crew.specs.Outcomes.{IsOfNoRead};
 ghost use Rattle.sb_names.specs.declared.names.TheConstants.{MAX_PREFIX};
 ghost use Rattle.s3backer.specs.Fresh.{IsFresh};
 ghost use Rattle.s3backer.specs.Plans.{naming_of};
@@ -30,7 +32,7 @@ use arrayvec::ArrayString;
 use sb_base::Geometry;
 use sb_core::Core;
 use sb_crew::{Alone, CallFault, Calls, Desk, DeskRefused, Names};
-use sb_laws::{unwindowed_flushes, unwindowed_is_legal, unwindowed_survives_crash};
+use sb_laws::{sound_flushes, sound_is_legal, sound_survives_crash};
 use sb_session::{Buffer, SessionEnd, serve_alone};
 use sb_world::{Bench, Clock, Link, MakeFault, Meta, Sink, Source, Tape, World};
 use std::alloc::{AllocError, Global};
@@ -47,13 +49,16 @@ const OUT_OF_MEMORY: &[u8] = b"s3backer: out of memory\n";
 
 /// The status of a session's end and of the flush after it: that of the first fault.
 fn status_of(end: SessionEnd, flushed: Result<(), CallFault>) -> u8
+    requires { IfErr flushed IsOfNoRead }
     ensures { result ≡ run_status end flushed }
 {
     match end {
         SessionEnd::Disconnected | SessionEnd::Ended => match flushed {
             Ok(()) => 0,
             Err(CallFault::StoreFault { status: _ }) => 3,
+            Err(CallFault::ClockStalled { .. }) => 11,
             Err(CallFault::Memory) => 12,
+            Err(CallFault::StaleRead { .. }) => unreachable!(),
         },
         SessionEnd::Refused | SessionEnd::ReadFault | SessionEnd::WriteFault | SessionEnd::Spent =>
             7,
@@ -62,6 +67,7 @@ fn status_of(end: SessionEnd, flushed: Result<(), CallFault>) -> u8
 
 /// Writes the line of the first fault of a session and the flush after it, if there is one.
 fn complain_of<S: Sink>(errors: &mut S, end: SessionEnd, flushed: Result<(), CallFault>)
+    requires { IfErr flushed IsOfNoRead }
     ensures { ComplainsOf (run_line end flushed) (S.held errors.old) (S.held errors.new) (S.faults errors.old)
         (S.faults errors.new) }
 {
@@ -76,6 +82,7 @@ fn complain_of<S: Sink>(errors: &mut S, end: SessionEnd, flushed: Result<(), Cal
 
 /// Writes the line of a flush's fault, if it has one.
 fn complain_of_flush<S: Sink>(errors: &mut S, flushed: Result<(), CallFault>)
+    requires { IfErr flushed IsOfNoRead }
     ensures { ComplainsOf (flush_line flushed) (S.held errors.old) (S.held errors.new) (S.faults errors.old)
         (S.faults errors.new) }
 {
@@ -85,7 +92,9 @@ fn complain_of_flush<S: Sink>(errors: &mut S, flushed: Result<(), CallFault>)
             errors,
             store_fault_line(status).as_str().as_bytes(),
         ),
+        Err(CallFault::ClockStalled { .. }) => complain(errors, b"s3backer: clock stands still\n"),
         Err(CallFault::Memory) => complain(errors, OUT_OF_MEMORY),
+        Err(CallFault::StaleRead { .. }) => unreachable!(),
     }
 }
 
@@ -151,9 +160,9 @@ fn serve_disk<L: Link, C: Clock, R: Source, S: Sink, T: Tape>(
         plan.now desk.link result.2 desk.clock result.3 input.old input.new output.old output.new errors.old
         errors.new (T.told tape) (T.told result.1) result.0 }
 {
-    unwindowed_is_legal();
-    unwindowed_flushes();
-    unwindowed_survives_crash();
+    sound_is_legal();
+    sound_flushes();
+    sound_survives_crash();
     let mut disk = Alone::new(core, names, tape);
     let end = serve_alone(&mut disk, &mut desk, &mut buffer, input, output);
     let flushed = disk.flush(&mut desk);
@@ -251,8 +260,8 @@ where
 ///
 /// The status is 0 where the session ended at DISC or between two messages and the store has all that was written, 2
 /// where the words aren't taken, 3 where the store can't be reached or the last flush failed, 7 where the session ended
-/// otherwise, and 12 for want of memory. A status other than 0 has its line on the bench's error sink, or is said where
-/// there is no bench.
+/// otherwise, 11 where the clock stood still at the last flush, and 12 for want of memory. A status other than 0 has
+/// its line on the bench's error sink, or is said where there is no bench.
 pub fn run<W: World, T: Tape + Drop>(
     alloc: Global,
     words: &[String],

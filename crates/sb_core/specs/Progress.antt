@@ -69,10 +69,11 @@ waits_left_in state window reading = 0
 abbrev pub waits_left : Core → ℕ → ℕ
 waits_left core reading = waits_left_in core.state core.window reading
 
--- a GET of the block has begun, and the block is closer
+-- a GET of the block has begun at the newest reading, and the block is closer
 pub record LeadsToGet (old new : Core) (pass block : ℕ) (job : GetJob) : Type 0 where
   pub same_block : job.block ≡ block
   pub begun : HasGet new pass job
+  pub reading : job.begun ≡ new.reading
   pub closer : steps_left new block < steps_left old block
   pub expects : job.expect ≡ expected old.window block new.reading
   pub window : new.window ≡ old.window

@@ -1,2 +1,5 @@
+pub mod Asking
 pub mod OutcomeLemmas
+pub mod Pausing
+pub mod Requesting
 pub mod Turning

@@ -5,9 +5,12 @@ use Rattle.sb_base.specs.declared.part.Part.{Part}
 use Rattle.sb_base.specs.declared.entry.Entry.{Entry}
 use Rattle.sb_world.specs.declared.clock.Tick.{Tick}
 use Rattle.sb_world.specs.declared.link.Call.{Call}
+use Rattle.sb_world.specs.declared.link.LinkFault.{LinkFault}
+use Rattle.sb_world.specs.declared.link.LinkFault.TheVariants as link
 use Rattle.sb_crew.specs.declared.calls.CallFault.{CallFault}
+use Rattle.sb_crew.specs.declared.calls.CallFault.TheVariants.{StoreFault, Memory, StaleRead, ClockStalled}
 use Rattle.sb_crew.specs.Outcomes.{outcomes_of, bytes_read, blocks_asked, outcome_of, bytes_of, asked_of, IsBlockOf}
-use Rattle.sb_crew.specs.Outcomes.{AsksOnly, HasCause}
+use Rattle.sb_crew.specs.Outcomes.{AsksOnly, FailsBy, IsStale, IsStalled, HasCause}
 
 -- the outcomes of two runs
 pub outcomes_join : (ys xs : List Entry) → outcomes_of (ys ++ xs) ≡ outcomes_of ys ++ outcomes_of xs
@@ -43,9 +46,30 @@ asks_join parts xs ys first second =
           (all_join (IsBlockOf parts) (blocks_asked ys) (blocks_asked xs) second.asked first.asked);
     }
 
--- the newest entry and call are those of the later run
+-- the newest entries, call and ticks are those of the later run
+fails_still : (fault : LinkFault) (xs ys : List Entry) (us vs : List Call) → FailsBy fault ys vs
+    → FailsBy fault (ys ++ xs) (vs ++ us)
+fails_still fault xs [] us vs cause = absurd cause
+fails_still fault xs (y ∷ ys) us [] cause = absurd cause
+fails_still fault xs (y ∷ ys) us (v ∷ vs) cause = cause
+
+stale_still : (block : ℕ) (expected shown : List ℕ) (begun : ℕ) (xs ys : List Entry)
+    → IsStale block expected shown begun ys → IsStale block expected shown begun (ys ++ xs)
+stale_still block expected shown begun xs [] cause = absurd cause
+stale_still block expected shown begun xs (y ∷ []) cause = absurd cause
+stale_still block expected shown begun xs (y ∷ z ∷ ys) cause = cause
+
+stalled_still : (before asked after : ℕ) (xs ys : List Entry) (ss ts : List Tick)
+    → IsStalled before asked after ys ts → IsStalled before asked after (ys ++ xs) (ts ++ ss)
+stalled_still before asked after xs [] ss ts cause = absurd cause
+stalled_still before asked after xs (y ∷ ys) ss ts cause =
+    (cause.0, (cause.1.0 ++ ss, ap (λ (ticks : List Tick). ticks ++ ss) cause.1.1, cause.1.2))
+
 pub cause_stays : (fault : CallFault) (xs ys : List Entry) (us vs : List Call) (ss ts : List Tick)
     → HasCause fault ys vs ts → HasCause fault (ys ++ xs) (vs ++ us) (ts ++ ss)
-cause_stays fault xs [] us vs ss ts cause = absurd cause
-cause_stays fault xs (y ∷ ys) us [] ss ts cause = absurd cause
-cause_stays fault xs (y ∷ ys) us (v ∷ vs) ss ts cause = cause
+cause_stays (StoreFault status) xs ys us vs ss ts cause = fails_still (link.Failed status) xs ys us vs cause
+cause_stays Memory xs ys us vs ss ts cause = fails_still link.Memory xs ys us vs cause
+cause_stays (StaleRead block expected shown begun) xs ys us vs ss ts cause =
+    stale_still block expected shown begun xs ys cause
+cause_stays (ClockStalled before asked after) xs ys us vs ss ts cause =
+    stalled_still before asked after xs ys ss ts cause

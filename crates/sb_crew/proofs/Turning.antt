@@ -1,42 +1,49 @@
 -- What a call did so far, after one turn more.
 use Rattle.std.proofs.Common.{ℕ, ◌≡◌, Bool, true, false, nat_eq, if◌then◌else◌, List, [], ◌∷◌, ◌++◌, Option, Some, None}
 use Rattle.std.proofs.Common.{Result, Ok, Err, IsSome, is_some, length, is_ok, is_none, refl, sym, ◌∙◌, ap, subst, ◌+◌}
-use Rattle.std.proofs.Common.{◌-◌, ◌^◌, ◌≤◌, ◌⊎◌, inl, inr, arith}
+use Rattle.std.proofs.Common.{◌-◌, ◌^◌, ◌≤◌, ◌⊎◌, inl, inr, arith, append_assoc}
 use mathlib.Core.Logic.{dite}
 use Rattle.std.proofs.Math.Decide.{dec_le}
 use Rattle.std.proofs.Math.Nat.{min-eq_left, min-eq_right, lt_of_not-le}
 use Rattle.std.specs.List.{AllByRecursion}
 use Rattle.std.proofs.lemmas.Bool.{eq-eqb}
 use Rattle.sb_base.specs.declared.part.Part.{Part}
+use Rattle.sb_base.specs.declared.line.Why.{Why}
 use Rattle.sb_base.specs.declared.entry.Entry.{Entry}
 use Rattle.sb_base.specs.declared.entry.EntryKind.{EntryKind}
 use Rattle.sb_base.specs.declared.entry.EntryKind.TheVariants as kind
 use Rattle.sb_world.specs.Told.{Gains, Rose, CountsFaults}
 use Rattle.sb_world.specs.Calls.{get_reply, fault_of, HasFailed}
 use Rattle.sb_world.specs.declared.clock.Tick.{Tick}
+use Rattle.sb_world.specs.declared.clock.Tick.TheVariants as tick
 use Rattle.sb_world.specs.declared.link.Call.{Call}
 use Rattle.sb_world.specs.declared.link.Call.TheVariants as call
 use Rattle.sb_world.specs.declared.link.Got.{Got}
 use Rattle.sb_world.specs.declared.link.Got.TheVariants as got
 use Rattle.sb_world.specs.declared.link.LinkFault.{LinkFault}
 use Rattle.sb_world.specs.declared.link.LinkFault.TheVariants as link
-use Rattle.sb_world.specs.declared.link.Meta.{Meta}
 use Rattle.sb_history.specs.Contents.{is_zeros}
+use Rattle.sb_history.specs.ClockTrace.{PausesAfter}
 use Rattle.sb_history.specs.Flushes.{flush_place, flush_place_after}
 use Rattle.sb_history.specs.Requests.{Replies, RequestLog, IsPutCall, meta_of, put_call}
 use Rattle.sb_core.specs.declared.machine.Core.{Core}
 use Rattle.sb_core.specs.declared.job.GetJob.{GetJob}
+use Rattle.sb_core.specs.Represents.{geometry_of, settings_of}
 use Rattle.sb_crew.specs.declared.calls.CallFault.{CallFault}
-use Rattle.sb_crew.specs.Counts.{is_failure, Counts}
+use Rattle.sb_crew.specs.Counts.{is_failure, Counts, Asked}
 use Rattle.sb_crew.specs.Names.{Naming, name_of}
-use Rattle.sb_crew.specs.Answers.{shown_for, fault_for, EndsAs}
+use Rattle.sb_crew.specs.Answers.{shown_for}
 use Rattle.sb_crew.specs.Outcomes as outcome
 use Rattle.sb_crew.specs.Outcomes.{Outcome, outcomes_of, outcome_of, bytes_read, bytes_of, asked_of, blocks_asked}
 use Rattle.sb_crew.specs.Outcomes.{IsBlockOf, AsksOnly, HasCause, Does, FlushBegun}
-use Rattle.sb_crew.specs.Runs.{any_past, HasBegun, Runs, RunsWhere, TickedWhere, Did, DidWhere}
-use Rattle.sb_crew.specs.Turns.{SoFar, FetchDoes, StoreDoes}
-use Rattle.sb_crew.specs.Joins.{asked_nothing, runs_join, did_join}
+use Rattle.sb_crew.specs.Runs.{any_past, HasBegun, next_ticks, Event, EventWhere, TurnWhere, Did, DidWhere}
+use Rattle.sb_crew.specs.Turns.{SoFar, next_of, Waits, get_begun, get_ended, FetchDoes, put_sent, put_ended}
+use Rattle.sb_crew.specs.Turns.{StoreDoes}
+use Rattle.sb_crew.specs.Joins.{gains_nothing, turn_joins, did_begin, asked_join}
+use Rattle.sb_laws.proofs.Joins.{requests_join}
 use Rattle.sb_crew.proofs.OutcomeLemmas.{cause_stays}
+use Rattle.sb_crew.proofs.Pausing.{pause_is}
+use Rattle.sb_crew.proofs.Requesting.{put_fault}
 
 -- a kind of histories that goes on with each entry
 abbrev pub Lasts : (List Entry → Type 0) → Type 0
@@ -65,14 +72,6 @@ begun_lasts mark (entry ∷ entries) past is =
 abbrev pub event : ℕ → EntryKind → Entry
 event reading of = record { pass = 1; reading = reading; kind = of }
 
--- the entry of an event is another one, which it is equal to
-runs_of : {Is : List Entry → Type 0} {names names' : Naming} {core core' : Core} {tape tape' : Option (List Entry)}
-    {clock clock' : Option (List Tick)} {entry other : Entry} {ticks : List Tick} → entry ≡ other
-    → RunsWhere Is names names' core core' tape tape' clock clock' (entry ∷ []) ticks
-    → RunsWhere Is names names' core core' tape tape' clock clock' (other ∷ []) ticks
-runs_of {Is} {names} {names'} {core} {core'} {tape} {tape'} {clock} {clock'} {ticks = ticks} is runs =
-    subst (λ (e : Entry). RunsWhere Is names names' core core' tape tape' clock clock' (e ∷ []) ticks) is runs
-
 -- the link's log says what the entry says
 replies_fit : (result : Result Got LinkFault) (bytes : List ℕ)
     → Replies (shown_for result bytes) (get_reply result bytes)
@@ -80,12 +79,6 @@ replies_fit (Ok got.Absent) bytes = refl
 replies_fit (Ok got.Bytes) bytes = refl
 replies_fit (Ok got.Same) bytes = refl
 replies_fit (Err fault) bytes = (fault, refl)
-
--- a fault of the link is that of the call
-same_fault : (fault : LinkFault) (ended : CallFault) → ended ≡ fault_for fault
-    → Some fault ≡ Some (outcome.link_fault ended)
-same_fault (link.Failed status) ended is = ap (λ f. Some (outcome.link_fault f)) (sym is)
-same_fault link.Memory ended is = ap (λ f. Some (outcome.link_fault f)) (sym is)
 
 -- the end of a put says whether a fault came
 ended_so : (sent : Result Unit LinkFault) → is_none (fault_of sent) ≡ is_ok sent
@@ -105,54 +98,6 @@ put_asked names block content sent reading later =
     IsPutCall (name_of names block) (meta_of (Some names.meta) block) put (is_ok sent) calls
     (λ earlier. earlier ≡ []) in
     subst P (sym known) (fault_of sent, [], refl, ended_so sent, refl)
-
--- a put that failed says its fault, as a delete or as a put
-put_fault : (zeros : Bool) (name : List ℕ) (meta : Option Meta) (content : List ℕ) (fault : Option LinkFault)
-    → outcome.fault_of (if zeros then call.Delete name fault else call.Put name content meta fault) ≡ fault
-put_fault true name meta content fault = refl
-put_fault false name meta content fault = refl
-
--- the newest entry is a failure, and the newest call has its fault
-get_failed : (name : List ℕ) (block : ℕ) (verify : Option (List ℕ)) (result : Result Got LinkFault) (bytes : List ℕ)
-    (later : ℕ) (taken : Bool) (fault : CallFault) (before : List Entry) (ticks : List Tick)
-    → EndsAs {U = Unit {0}} result (Err fault)
-    → HasCause fault (event later (kind.GetEnd block (shown_for result bytes) verify taken) ∷ before)
-    (call.Get name verify (get_reply result bytes) ∷ []) ticks
-get_failed name block verify (Ok value) bytes later taken fault before ticks ends = absurd ends
-get_failed name block verify (Err cause) bytes later taken fault before ticks ends = (tt, same_fault cause fault ends)
-
-put_failed : (name : List ℕ) (block : ℕ) (meta : Option Meta) (content : List ℕ) (sent : Result Unit LinkFault)
-    (later : ℕ) (fault : CallFault) (before : List Entry) (ticks : List Tick) → EndsAs {U = Unit {0}} sent (Err fault)
-    → HasCause fault (event later (kind.PutEnd block (is_ok sent)) ∷ before)
-    (put_call name meta content (fault_of sent) ∷ []) ticks
-put_failed name block meta content (Ok value) later fault before ticks ends = absurd ends
-put_failed name block meta content (Err cause) later fault before ticks ends =
-    (refl, put_fault (is_zeros content) name meta content (Some cause) ∙ same_fault cause fault ends)
-
--- the entries and the call of a GET
-abbrev pub get_entries : ℕ → GetJob → ℕ → Result Got LinkFault → List ℕ → Bool → List Entry
-get_entries reading job later result bytes taken =
-    event later (kind.GetEnd job.block (shown_for result bytes) job.verify taken)
-    ∷ event reading (kind.GetBegin job.block job.expect job.verify) ∷ []
-
-abbrev pub get_calls : Naming → GetJob → Result Got LinkFault → List ℕ → List Call
-get_calls names job result bytes = call.Get (name_of names job.block) job.verify (get_reply result bytes) ∷ []
-
--- the entries and the call of a put
-abbrev pub put_entries : ℕ → ℕ → List ℕ → ℕ → Result Unit LinkFault → List Entry
-put_entries reading block content later sent =
-    event later (kind.PutEnd block (is_ok sent)) ∷ event reading (kind.PutBegin block content) ∷ []
-
-abbrev pub put_calls : Naming → ℕ → List ℕ → Result Unit LinkFault → List Call
-put_calls names block content sent =
-    put_call (name_of names block) (meta_of (Some names.meta) block) content (fault_of sent) ∷ []
-
--- a GET asks for its block
-get_asks : (parts : List Part) (before : List Entry) (reading : ℕ) (job : GetJob) (later : ℕ)
-    (result : Result Got LinkFault)
-    (bytes : List ℕ) (taken : Bool) → AsksOnly parts before → IsBlockOf parts job.block
-    → AsksOnly parts (get_entries reading job later result bytes taken ++ before)
-get_asks parts before reading job later result bytes taken asks same = record { asked = (same, asks.asked) }
 
 -- a count that rose, or stands at its end
 rose_by_one : (before now : ℕ) → Rose before now → (before + 1 ≤ now) ⊎ (2 ^ 64 - 1 ≤ now)
@@ -185,88 +130,104 @@ get_fault name verify (Ok got.Bytes) bytes = refl
 get_fault name verify (Ok got.Same) bytes = refl
 get_fault name verify (Err fault) bytes = refl
 
--- what a run of events and calls did
-module _ {Then : List Entry → Type 0} {names1 names2 : Naming} {b c : Core} {tape1 tape2 : Option (List Entry)}
-    {clock1 clock2 : Option (List Tick)} where
-  -- an event that asked for nothing
-  event_does : {log1 : Option (List Call)} {faults1 : ℕ} {entry : Entry} (reading : ℕ) (of : EntryKind)
-      → entry ≡ event reading of
-      → RequestLog (name_of names1) (Some names1.meta) (event reading of ∷ []) []
-      → (runs : TickedWhere Then names1 names2 b c tape1 tape2 clock1 clock2 (entry ∷ []))
-      → DidWhere Then names1 names2 b c tape1 tape2 log1 log1 faults1 faults1 clock1 clock2 (event reading of ∷ []) []
-      runs.ticks
-  event_does {log1} {faults1} reading of is quiet runs =
-      record { runs = runs_of is runs.ran; asked = asked_nothing log1 faults1; requests = quiet }
+-- a turn of an event that no pause follows
+plain_turn : {Then : List Entry → Type 0} {names names' : Naming} {core core' : Core} {tape tape' : Option (List Entry)}
+    {clock clock' : Option (List Tick)} {now : ℕ} {entry other : Entry} (next : Option ℕ) → entry ≡ other
+    → EventWhere Then names names' core core' tape tape' now entry
+    → ((past : List Entry) → PausesAfter (geometry_of core) (settings_of core) past now other.kind None)
+    → Gains clock clock' (next_ticks next ++ [])
+    → TurnWhere Then names names' core core' tape tape' clock clock' now other next []
+plain_turn {Then} {names} {names'} {core} {core'} {tape} {tape'} {now = now} next same event plain gains = record {
+  event = subst (λ (e : Entry). EventWhere Then names names' core core' tape tape' now e) same event;
+  pause = None;
+  pauses = λ past is stands. plain past;
+  paused = refl;
+  readings = gains;
+}
 
-  get_does : {names3 : Naming} {d : Core} {tape3 : Option (List Entry)} {log1 log3 : Option (List Call)}
-      {faults1 faults3 : ℕ} {clock3 : Option (List Tick)} {entry : Entry} {ended : Result Unit CallFault}
-      (reading : ℕ) (job : GetJob) → entry ≡ event reading (kind.GetBegin job.block job.expect job.verify)
-      → (runs : TickedWhere Then names1 names2 b c tape1 tape2 clock1 clock2 (entry ∷ []))
-      → (fetched : FetchDoes (Runs names2 names3 c d tape2 tape3 clock2 clock3) (Gains log1 log3)
-      (CountsFaults faults1 faults3) names2 job.block job.verify ended)
-      → DidWhere Then names1 names3 b d tape1 tape3 log1 log3 faults1 faults3 clock1 clock3
-      (get_entries reading job fetched.answer.reading fetched.got fetched.bytes fetched.answer.taken)
-      (get_calls names1 job fetched.got fetched.bytes) (fetched.answer.ran.ticks ++ runs.ticks)
-  get_does {log1 = log1} {log3 = log3} {faults1 = faults1} {faults3 = faults3} reading job is runs fetched = record {
-    runs = runs_join (λ past fits. tt) (runs_of is runs.ran) fetched.answer.ran.ran;
-    asked = record {
-      gained = subst (λ (names : Naming). Gains log1 log3 (get_calls names job fetched.got fetched.bytes))
-          runs.ran.same_names fetched.called;
-      counted = counts_so faults1 faults3 fetched.got
-          (call.Get (name_of names1 job.block) job.verify (get_reply fetched.got fetched.bytes))
-          (get_fault (name_of names1 job.block) job.verify fetched.got fetched.bytes) fetched.counted;
-    };
-    requests =
-        (get_reply fetched.got fetched.bytes, [], refl, replies_fit fetched.got fetched.bytes, refl);
-  }
+-- the turn of a wait, with its pause
+wait_turn : {Then : List Entry → Type 0} {names1 names2 : Naming} {b c : Core} {tape1 tape2 : Option (List Entry)}
+    {clock1 clock2 : Option (List Tick)} {latest latest' now : ℕ} {entry : Entry} {result : Result ℕ CallFault}
+    (reading : ℕ) (why : Why) → entry ≡ event reading (kind.Waited why)
+    → EventWhere Then names1 names2 b c tape1 tape2 now entry
+    → (waits : Waits clock1 clock2 latest latest' now why result)
+    → TurnWhere Then names1 names2 b c tape1 tape2 clock1 clock2 now (event reading (kind.Waited why))
+    (next_of result) (pause_is waits.paused).after
+wait_turn {Then} {names1} {names2} {b} {c} {tape1} {tape2} {now = now} reading why is did waits = record {
+  event = subst (λ (e : Entry). EventWhere Then names1 names2 b c tape1 tape2 now e) is did;
+  pause = Some waits.millis;
+  pauses = λ past fits stands. sym waits.pause_is;
+  paused = (pause_is waits.paused).paused;
+  readings = (pause_is waits.paused).readings;
+}
 
-  put_does : {names3 : Naming} {d : Core} {tape3 : Option (List Entry)} {log1 log3 : Option (List Call)}
-      {faults1 faults3 : ℕ} {clock3 : Option (List Tick)} {entry : Entry} {ended : Result Unit CallFault}
-      (reading block : ℕ) (content : List ℕ) → entry ≡ event reading (kind.PutBegin block content)
-      → (runs : TickedWhere Then names1 names2 b c tape1 tape2 clock1 clock2 (entry ∷ []))
-      → (stored : StoreDoes (Runs names2 names3 c d tape2 tape3 clock2 clock3) (Gains log1 log3)
-      (CountsFaults faults1 faults3) names2 block content ended)
-      → DidWhere Then names1 names3 b d tape1 tape3 log1 log3 faults1 faults3 clock1 clock3
-      (put_entries reading block content stored.reading stored.sent)
-      (put_calls names1 block content stored.sent) (stored.ran.ticks ++ runs.ticks)
-  put_does {log1 = log1} {log3 = log3} {faults1 = faults1} {faults3 = faults3} reading block content is runs
-      stored = record {
-        runs = runs_join (λ past fits. tt) (runs_of is runs.ran) stored.ran.ran;
-        asked = record {
-          gained = subst (λ (names : Naming). Gains log1 log3 (put_calls names block content stored.sent))
-              runs.ran.same_names stored.called;
-          counted = counts_so faults1 faults3 stored.sent
-              (put_call (name_of names1 block) (meta_of (Some names1.meta) block) content (fault_of stored.sent))
-              (put_fault (is_zeros content) (name_of names1 block) (meta_of (Some names1.meta) block) content
-              (fault_of stored.sent)) stored.counted;
-        };
-        requests = put_asked names1 block content stored.sent reading stored.reading;
-      }
+-- before its first turn a call has done nothing
+pub starts : {names : Naming} {a : Core} {tape : Option (List Entry)} {log : Option (List Call)} {faults : ℕ}
+    {clock clock1 : Option (List Tick)} {parts : List Part} {now : ℕ} → Gains clock clock1 (tick.Taken now ∷ [])
+    → SoFar any_past [] names names a a tape tape log log faults faults clock clock1 parts now
+starts {now = now} gains = record {
+  entries = [];
+  calls = [];
+  ticks = [];
+  done = did_begin (Some now) gains;
+  met_so = refl;
+  no_bytes = refl;
+  asks = record { asked = tt };
+  leads = λ past. tt;
+}
 
--- what a call did so far, and then what these entries and calls of the link say
+-- what a call did so far, and then what these turns and calls of the link say
 module _ {Then : List Entry → Type 0} {met : List Outcome} {names names1 : Naming} {a b : Core}
     {tape tape1 : Option (List Entry)} {log log1 : Option (List Call)} {faults faults1 : ℕ}
-    {clock clock1 : Option (List Tick)} {parts : List Part} where
-  did_more : {names2 : Naming} {c : Core} {tape2 : Option (List Entry)} {log2 : Option (List Call)} {faults2 : ℕ}
-      {clock2 : Option (List Tick)} {ys : List Entry} {vs : List Call} {ts : List Tick}
-      (before : SoFar Then met names names1 a b tape tape1 log log1 faults faults1 clock clock1 parts)
-      → DidWhere Then names1 names2 b c tape1 tape2 log1 log2 faults1 faults2 clock1 clock2 ys vs ts
-      → Did names names2 a c tape tape2 log log2 faults faults2 clock clock2 (ys ++ before.entries) (vs ++ before.calls)
-      (ts ++ before.ticks)
-  did_more before more = did_join (λ past fits. before.leads past) before.done more
+    {clock clock1 : Option (List Tick)} {parts : List Part} {now : ℕ} where
+  one_turn : {names2 : Naming} {c : Core} {tape2 : Option (List Entry)} {clock2 : Option (List Tick)}
+      {next : Option ℕ} {after : List Tick} {entry : Entry}
+      (before : SoFar Then met names names1 a b tape tape1 log log1 faults faults1 clock clock1 parts now)
+      → TurnWhere Then names1 names2 b c tape1 tape2 clock1 clock2 now entry next after
+      → RequestLog (name_of names) (Some names.meta) (entry ∷ []) []
+      → DidWhere any_past names names2 a c tape tape2 log log1 faults faults1 clock clock2 (entry ∷ before.entries)
+      before.calls (after ++ tick.Taken now ∷ before.ticks) next
+  one_turn {entry = entry} before turn quiet = record {
+    runs = turn_joins (λ past fits. before.leads past) before.done.runs turn;
+    asked = before.done.asked;
+    requests = requests_join (name_of names) (Some names.meta) before.entries (entry ∷ []) before.calls []
+        before.done.requests quiet;
+  }
+
+  two_turns : {names2 names3 : Naming} {c d : Core} {tape2 tape3 : Option (List Entry)}
+      {log3 : Option (List Call)} {faults3 : ℕ} {between clock3 : Option (List Tick)} {next : Option ℕ}
+      {after : List Tick} {first second : Entry} {later : ℕ} {asked : Call}
+      (before : SoFar Then met names names1 a b tape tape1 log log1 faults faults1 clock clock1 parts now)
+      → TurnWhere Then names1 names2 b c tape1 tape2 clock1 between now first (Some later) []
+      → TurnWhere any_past names2 names3 c d tape2 tape3 between clock3 later second next after
+      → Asked log1 log3 faults1 faults3 (asked ∷ [])
+      → RequestLog (name_of names2) (Some names2.meta) (second ∷ first ∷ []) (asked ∷ [])
+      → DidWhere any_past names names3 a d tape tape3 log log3 faults faults3 clock clock3
+      (second ∷ first ∷ before.entries) (asked ∷ before.calls)
+      (after ++ tick.Taken later ∷ tick.Taken now ∷ before.ticks) next
+  two_turns {log3 = log3} {faults3 = faults3} {first = first} {second = second} {asked = asked} before begun ended
+      called requests =
+      let same = begun.event.same_names ∙ before.done.runs.same_names in
+      let P : Naming → Type 0 = λ n. RequestLog (name_of n) (Some n.meta) (second ∷ first ∷ []) (asked ∷ []) in
+      record {
+        runs = turn_joins (λ past fits. tt) (turn_joins (λ past fits. before.leads past) before.done.runs begun) ended;
+        asked = asked_join log log1 log3 faults faults1 faults3 before.calls (asked ∷ []) before.done.asked called;
+        requests = requests_join (name_of names) (Some names.meta) before.entries (second ∷ first ∷ []) before.calls
+            (asked ∷ []) before.done.requests (subst P same requests);
+      }
 
   -- another block left the cache
   pub after_drop : {names2 : Naming} {c : Core} {tape2 : Option (List Entry)} {clock2 : Option (List Tick)}
-      {entry : Entry}
-      → Lasts Then → SoFar Then met names names1 a b tape tape1 log log1 faults faults1 clock clock1 parts
+      {entry : Entry} {next : ℕ} → Lasts Then
+      → SoFar Then met names names1 a b tape tape1 log log1 faults faults1 clock clock1 parts now
       → (reading dropped : ℕ) → entry ≡ event reading (kind.Dropped dropped)
-      → TickedWhere Then names1 names2 b c tape1 tape2 clock1 clock2 (entry ∷ [])
-      → SoFar Then met names names2 a c tape tape2 log log1 faults faults1 clock clock2 parts
-  after_drop lasts before reading dropped is runs = record {
+      → EventWhere Then names1 names2 b c tape1 tape2 now entry → Gains clock1 clock2 (tick.Taken next ∷ [])
+      → SoFar Then met names names2 a c tape tape2 log log1 faults faults1 clock clock2 parts next
+  after_drop {next = next} lasts before reading dropped is did gains = record {
     entries = event reading (kind.Dropped dropped) ∷ before.entries;
     calls = before.calls;
-    ticks = runs.ticks ++ before.ticks;
-    done = did_more before (event_does reading (kind.Dropped dropped) is refl runs);
+    ticks = tick.Taken now ∷ before.ticks;
+    done = one_turn before (plain_turn (Some next) is did (λ past. refl) gains) refl;
     met_so = before.met_so;
     no_bytes = ap (λ bs. bs ++ []) before.no_bytes;
     asks = record { asked = before.asks.asked };
@@ -275,19 +236,19 @@ module _ {Then : List Entry → Type 0} {met : List Outcome} {names names1 : Nam
   }
 
   -- the event that answers the call
-  pub ends_with : {names2 : Naming} {c : Core} {tape2 : Option (List Entry)} {clock2 : Option (List Tick)}
-      {entry : Entry}
-      → SoFar Then met names names1 a b tape tape1 log log1 faults faults1 clock clock1 parts
+  pub ends_with : {names2 : Naming} {c : Core} {tape2 : Option (List Entry)} {entry : Entry}
+      → SoFar Then met names names1 a b tape tape1 log log1 faults faults1 clock clock1 parts now
       → (reading : ℕ) (of : EntryKind) → entry ≡ event reading of
-      → RequestLog (name_of names1) (Some names1.meta) (event reading of ∷ []) [] → asked_of of ≡ []
-      → TickedWhere Then names1 names2 b c tape1 tape2 clock1 clock2 (entry ∷ [])
-      → Does (Did names names2 a c tape tape2 log log1 faults faults1 clock clock2) parts
+      → RequestLog (name_of names) (Some names.meta) (event reading of ∷ []) [] → asked_of of ≡ []
+      → ((past : List Entry) → PausesAfter (geometry_of b) (settings_of b) past now of None)
+      → EventWhere Then names1 names2 b c tape1 tape2 now entry
+      → Does (Did names names2 a c tape tape2 log log1 faults faults1 clock clock1) parts
       (λ entries calls ticks. (outcomes_of entries ≡ outcome_of of ++ met) × (bytes_read entries ≡ bytes_of of))
-  ends_with before reading of is quiet asks runs = record {
+  ends_with before reading of is quiet asks plain did = record {
     entries = event reading of ∷ before.entries;
     calls = before.calls;
-    ticks = runs.ticks ++ before.ticks;
-    done = did_more before (event_does reading of is quiet runs);
+    ticks = tick.Taken now ∷ before.ticks;
+    done = one_turn before (plain_turn None is did plain (gains_nothing clock1)) quiet;
     ends = (ap (λ os. outcome_of of ++ os) before.met_so, ap (λ bs. bs ++ bytes_of of) before.no_bytes);
     asks = record {
       asked = subst (λ (bs : List ℕ). AllByRecursion (IsBlockOf parts) (bs ++ blocks_asked before.entries)) (sym asks)
@@ -295,131 +256,201 @@ module _ {Then : List Entry → Type 0} {met : List Outcome} {names names1 : Nam
     };
   }
 
+  -- the call waited
+  pub after_wait : {names2 : Naming} {c : Core} {tape2 : Option (List Entry)} {clock2 : Option (List Tick)}
+      {latest latest' next : ℕ} {entry : Entry} → Lasts Then
+      → SoFar Then met names names1 a b tape tape1 log log1 faults faults1 clock clock1 parts now
+      → (reading : ℕ) (why : Why) → entry ≡ event reading (kind.Waited why)
+      → EventWhere Then names1 names2 b c tape1 tape2 now entry
+      → Waits clock1 clock2 latest latest' now why (Ok next)
+      → SoFar Then met names names2 a c tape tape2 log log1 faults faults1 clock clock2 parts next
+  after_wait lasts before reading why is did waits = record {
+    entries = event reading (kind.Waited why) ∷ before.entries;
+    calls = before.calls;
+    ticks = (pause_is waits.paused).after ++ tick.Taken now ∷ before.ticks;
+    done = one_turn before (wait_turn reading why is did waits) refl;
+    met_so = before.met_so;
+    no_bytes = ap (λ bs. bs ++ []) before.no_bytes;
+    asks = record { asked = before.asks.asked };
+    leads = λ past. lasts (event reading (kind.Waited why) ∷ []) (before.entries ++ past) (before.leads past);
+  }
+
+  -- the clock stands still behind a wait
+  pub wait_fails : {names2 : Naming} {c : Core} {tape2 : Option (List Entry)} {clock2 : Option (List Tick)}
+      {latest latest' : ℕ} {entry : Entry}
+      → SoFar Then met names names1 a b tape tape1 log log1 faults faults1 clock clock1 parts now
+      → (reading : ℕ) (why : Why) (fault : CallFault) → entry ≡ event reading (kind.Waited why)
+      → EventWhere Then names1 names2 b c tape1 tape2 now entry
+      → Waits clock1 clock2 latest latest' now why (Err fault)
+      → Does (Did names names2 a c tape tape2 log log1 faults faults1 clock clock2) parts
+      (λ entries calls ticks. (outcomes_of entries ≡ met) × HasCause fault entries calls ticks)
+  wait_fails before reading why fault is did waits = record {
+    entries = event reading (kind.Waited why) ∷ before.entries;
+    calls = before.calls;
+    ticks = (pause_is waits.paused).after ++ tick.Taken now ∷ before.ticks;
+    done = one_turn before (wait_turn reading why is did waits) refl;
+    ends = (
+      before.met_so,
+      (pause_is waits.paused).cause (event reading (kind.Waited why)) before.entries before.calls before.ticks
+          waits.pause_is,
+    );
+    asks = record { asked = before.asks.asked };
+  }
+
+  -- the entries, the call and the ticks of a GET
+  get_does : {names2 names3 : Naming} {c d : Core} {tape2 tape3 : Option (List Entry)}
+      {log3 : Option (List Call)} {faults3 : ℕ} {clock3 : Option (List Tick)} {entry : Entry}
+      {ended : Result ℕ CallFault} (job : GetJob)
+      (before : SoFar Then met names names1 a b tape tape1 log log1 faults faults1 clock clock1 parts now)
+      → entry ≡ get_begun job → EventWhere Then names1 names2 b c tape1 tape2 now entry
+      → (fetched : FetchDoes names2 names3 c d tape2 tape3 clock1 clock3 log1 log3 faults1 faults3 job ended)
+      → DidWhere any_past names names3 a d tape tape3 log log3 faults faults3 clock clock3
+      (get_ended job fetched.reading fetched.got fetched.bytes fetched.taken ∷ get_begun job ∷ before.entries)
+      (call.Get (name_of names2 job.block) job.verify (get_reply fetched.got fetched.bytes) ∷ before.calls)
+      (fetched.after ++ tick.Taken fetched.later ∷ tick.Taken now ∷ before.ticks) (next_of ended)
+  get_does {names2} {faults3 = faults3} job before is did fetched =
+      let asked = call.Get (name_of names2 job.block) job.verify (get_reply fetched.got fetched.bytes) in
+      two_turns before (plain_turn (Some fetched.later) is did (λ past. refl) fetched.took) fetched.turn
+      (record {
+        gained = fetched.called;
+        counted = counts_so faults1 faults3 fetched.got asked
+            (get_fault (name_of names2 job.block) job.verify fetched.got fetched.bytes) fetched.counted;
+      })
+      (get_reply fetched.got fetched.bytes, [], refl, replies_fit fetched.got fetched.bytes, refl)
+
   -- a GET was made
   pub after_get : {names2 names3 : Naming} {c d : Core} {tape2 tape3 : Option (List Entry)}
-      {log3 : Option (List Call)} {faults3 : ℕ} {clock2 clock3 : Option (List Tick)} {entry : Entry}
-      {ended : Result Unit CallFault}
-      → Lasts Then → SoFar Then met names names1 a b tape tape1 log log1 faults faults1 clock clock1 parts
-      → (reading : ℕ) (job : GetJob)
-      → entry ≡ event reading (kind.GetBegin job.block job.expect job.verify) → IsBlockOf parts job.block
-      → TickedWhere Then names1 names2 b c tape1 tape2 clock1 clock2 (entry ∷ [])
-      → FetchDoes (Runs names2 names3 c d tape2 tape3 clock2 clock3) (Gains log1 log3)
-      (CountsFaults faults1 faults3) names2 job.block job.verify ended
-      → SoFar Then met names names3 a d tape tape3 log log3 faults faults3 clock clock3 parts
-  after_get lasts before reading job is same runs fetched =
-      let more = get_entries reading job fetched.answer.reading fetched.got fetched.bytes fetched.answer.taken in
+      {log3 : Option (List Call)} {faults3 : ℕ} {clock3 : Option (List Tick)} {entry : Entry} {next : ℕ}
+      → Lasts Then → SoFar Then met names names1 a b tape tape1 log log1 faults faults1 clock clock1 parts now
+      → (job : GetJob) → entry ≡ get_begun job → IsBlockOf parts job.block
+      → EventWhere Then names1 names2 b c tape1 tape2 now entry
+      → FetchDoes names2 names3 c d tape2 tape3 clock1 clock3 log1 log3 faults1 faults3 job (Ok next)
+      → SoFar Then met names names3 a d tape tape3 log log3 faults faults3 clock clock3 parts next
+  after_get {names2} lasts before job is same did fetched =
+      let more = get_ended job fetched.reading fetched.got fetched.bytes fetched.taken ∷ get_begun job ∷ [] in
       record {
         entries = more ++ before.entries;
-        calls = get_calls names1 job fetched.got fetched.bytes ++ before.calls;
-        ticks = (fetched.answer.ran.ticks ++ runs.ticks) ++ before.ticks;
-        done = did_more before (get_does reading job is runs fetched);
+        calls = call.Get (name_of names2 job.block) job.verify (get_reply fetched.got fetched.bytes) ∷ before.calls;
+        ticks = fetched.after ++ tick.Taken fetched.later ∷ tick.Taken now ∷ before.ticks;
+        done = get_does job before is did fetched;
         met_so = before.met_so;
         no_bytes = ap (λ bs. (bs ++ []) ++ []) before.no_bytes;
-        asks = get_asks parts before.entries reading job fetched.answer.reading fetched.got fetched.bytes
-            fetched.answer.taken before.asks same;
+        asks = record { asked = (same, before.asks.asked) };
         leads = λ past. lasts more (before.entries ++ past) (before.leads past);
       }
 
-  -- a GET failed
+  -- a call failed by a GET
   pub get_fails : {names2 names3 : Naming} {c d : Core} {tape2 tape3 : Option (List Entry)}
-      {log3 : Option (List Call)} {faults3 : ℕ} {clock2 clock3 : Option (List Tick)} {entry : Entry}
-      {ended : Result Unit CallFault}
-      → SoFar Then met names names1 a b tape tape1 log log1 faults faults1 clock clock1 parts
-      → (reading : ℕ) (job : GetJob) → entry ≡ event reading (kind.GetBegin job.block job.expect job.verify)
-      → IsBlockOf parts job.block
-      → TickedWhere Then names1 names2 b c tape1 tape2 clock1 clock2 (entry ∷ [])
-      → FetchDoes (Runs names2 names3 c d tape2 tape3 clock2 clock3) (Gains log1 log3)
-      (CountsFaults faults1 faults3) names2 job.block job.verify ended
-      → (fault : CallFault) → ended ≡ Err fault
+      {log3 : Option (List Call)} {faults3 : ℕ} {clock3 : Option (List Tick)} {entry : Entry}
+      → SoFar Then met names names1 a b tape tape1 log log1 faults faults1 clock clock1 parts now
+      → (job : GetJob) (fault : CallFault) → entry ≡ get_begun job → IsBlockOf parts job.block
+      → EventWhere Then names1 names2 b c tape1 tape2 now entry
+      → FetchDoes names2 names3 c d tape2 tape3 clock1 clock3 log1 log3 faults1 faults3 job (Err fault)
       → Does (Did names names3 a d tape tape3 log log3 faults faults3 clock clock3) parts
       (λ entries calls ticks. (outcomes_of entries ≡ met) × HasCause fault entries calls ticks)
-  get_fails before reading job is same runs fetched fault failed =
-      let ends : EndsAs {U = Unit {0}} fetched.got (Err fault) =
-      subst (λ (r : Result Unit CallFault). EndsAs fetched.got r) failed fetched.answer.ends in
-      let begun = event reading (kind.GetBegin job.block job.expect job.verify) in
-      let cause = get_failed (name_of names1 job.block) job.block job.verify fetched.got fetched.bytes
-      fetched.answer.reading fetched.answer.taken fault (begun ∷ []) (fetched.answer.ran.ticks ++ runs.ticks) ends in
-      let more = get_entries reading job fetched.answer.reading fetched.got fetched.bytes fetched.answer.taken in
+  get_fails {names2} before job fault is same did fetched =
+      let more = get_ended job fetched.reading fetched.got fetched.bytes fetched.taken ∷ get_begun job ∷ [] in
+      let asked = call.Get (name_of names2 job.block) job.verify (get_reply fetched.got fetched.bytes) in
       record {
         entries = more ++ before.entries;
-        calls = get_calls names1 job fetched.got fetched.bytes ++ before.calls;
-        ticks = (fetched.answer.ran.ticks ++ runs.ticks) ++ before.ticks;
-        done = did_more before (get_does reading job is runs fetched);
+        calls = asked ∷ before.calls;
+        ticks = fetched.after ++ tick.Taken fetched.later ∷ tick.Taken now ∷ before.ticks;
+        done = get_does job before is did fetched;
         ends = (
           before.met_so,
-          cause_stays fault before.entries more before.calls (get_calls names1 job fetched.got fetched.bytes)
-              before.ticks (fetched.answer.ran.ticks ++ runs.ticks) cause,
+          subst (HasCause fault (more ++ before.entries) (asked ∷ before.calls))
+              (append_assoc fetched.after (tick.Taken fetched.later ∷ []) (tick.Taken now ∷ before.ticks))
+              (cause_stays fault before.entries more before.calls (asked ∷ []) (tick.Taken now ∷ before.ticks)
+              (fetched.after ++ tick.Taken fetched.later ∷ []) fetched.cause),
         );
-        asks = get_asks parts before.entries reading job fetched.answer.reading fetched.got fetched.bytes
-            fetched.answer.taken before.asks same;
+        asks = record { asked = (same, before.asks.asked) };
       }
 
-  -- a put was made
-  pub after_put : {names2 names3 : Naming} {c d : Core} {tape2 tape3 : Option (List Entry)}
-      {log3 : Option (List Call)} {faults3 : ℕ} {clock2 clock3 : Option (List Tick)} {entry : Entry}
-      {ended : Result Unit CallFault}
-      → Lasts Then → SoFar Then met names names1 a b tape tape1 log log1 faults faults1 clock clock1 parts
-      → (reading block : ℕ) (content : List ℕ)
+  -- the entries, the call and the ticks of a PUT
+  put_does : {names2 names3 : Naming} {c d : Core} {tape2 tape3 : Option (List Entry)}
+      {log3 : Option (List Call)} {faults3 : ℕ} {clock3 : Option (List Tick)} {entry : Entry}
+      {ended : Result ℕ CallFault} (reading block : ℕ) (content : List ℕ)
+      (before : SoFar Then met names names1 a b tape tape1 log log1 faults faults1 clock clock1 parts now)
       → entry ≡ event reading (kind.PutBegin block content)
-      → TickedWhere Then names1 names2 b c tape1 tape2 clock1 clock2 (entry ∷ [])
-      → StoreDoes (Runs names2 names3 c d tape2 tape3 clock2 clock3) (Gains log1 log3)
-      (CountsFaults faults1 faults3) names2 block content ended
-      → SoFar Then met names names3 a d tape tape3 log log3 faults faults3 clock clock3 parts
-  after_put lasts before reading block content is runs stored =
-      let more = put_entries reading block content stored.reading stored.sent in
+      → EventWhere Then names1 names2 b c tape1 tape2 now entry
+      → (stored : StoreDoes names2 names3 c d tape2 tape3 clock1 clock3 log1 log3 faults1 faults3 block content ended)
+      → DidWhere any_past names names3 a d tape tape3 log log3 faults faults3 clock clock3
+      (put_ended block stored.reading stored.sent ∷ event reading (kind.PutBegin block content) ∷ before.entries)
+      (put_sent names2 block content stored.sent ∷ before.calls)
+      (stored.after ++ tick.Taken stored.later ∷ tick.Taken now ∷ before.ticks) (next_of ended)
+  put_does {names2} {faults3 = faults3} reading block content before is did stored =
+      two_turns before (plain_turn (Some stored.later) is did (λ past. refl) stored.took) stored.turn
+      (record {
+        gained = stored.called;
+        counted = counts_so faults1 faults3 stored.sent (put_sent names2 block content stored.sent)
+            (put_fault (is_zeros content) (name_of names2 block) (meta_of (Some names2.meta) block) content
+            (fault_of stored.sent)) stored.counted;
+      })
+      (put_asked names2 block content stored.sent reading stored.reading)
+
+  -- a PUT was made
+  pub after_put : {names2 names3 : Naming} {c d : Core} {tape2 tape3 : Option (List Entry)}
+      {log3 : Option (List Call)} {faults3 : ℕ} {clock3 : Option (List Tick)} {entry : Entry} {next : ℕ}
+      → Lasts Then → SoFar Then met names names1 a b tape tape1 log log1 faults faults1 clock clock1 parts now
+      → (reading block : ℕ) (content : List ℕ) → entry ≡ event reading (kind.PutBegin block content)
+      → EventWhere Then names1 names2 b c tape1 tape2 now entry
+      → StoreDoes names2 names3 c d tape2 tape3 clock1 clock3 log1 log3 faults1 faults3 block content (Ok next)
+      → SoFar Then met names names3 a d tape tape3 log log3 faults faults3 clock clock3 parts next
+  after_put {names2} lasts before reading block content is did stored =
+      let more = put_ended block stored.reading stored.sent ∷ event reading (kind.PutBegin block content) ∷ [] in
       record {
         entries = more ++ before.entries;
-        calls = put_calls names1 block content stored.sent ++ before.calls;
-        ticks = (stored.ran.ticks ++ runs.ticks) ++ before.ticks;
-        done = did_more before (put_does reading block content is runs stored);
+        calls = put_sent names2 block content stored.sent ∷ before.calls;
+        ticks = stored.after ++ tick.Taken stored.later ∷ tick.Taken now ∷ before.ticks;
+        done = put_does reading block content before is did stored;
         met_so = before.met_so;
         no_bytes = ap (λ bs. (bs ++ []) ++ []) before.no_bytes;
         asks = record { asked = before.asks.asked };
         leads = λ past. lasts more (before.entries ++ past) (before.leads past);
       }
 
-  -- a put failed
+  -- a call failed by a PUT
   pub put_fails : {names2 names3 : Naming} {c d : Core} {tape2 tape3 : Option (List Entry)}
-      {log3 : Option (List Call)} {faults3 : ℕ} {clock2 clock3 : Option (List Tick)} {entry : Entry}
-      {ended : Result Unit CallFault}
-      → SoFar Then met names names1 a b tape tape1 log log1 faults faults1 clock clock1 parts
-      → (reading block : ℕ) (content : List ℕ)
+      {log3 : Option (List Call)} {faults3 : ℕ} {clock3 : Option (List Tick)} {entry : Entry}
+      → SoFar Then met names names1 a b tape tape1 log log1 faults faults1 clock clock1 parts now
+      → (reading block : ℕ) (content : List ℕ) (fault : CallFault)
       → entry ≡ event reading (kind.PutBegin block content)
-      → TickedWhere Then names1 names2 b c tape1 tape2 clock1 clock2 (entry ∷ [])
-      → StoreDoes (Runs names2 names3 c d tape2 tape3 clock2 clock3) (Gains log1 log3)
-      (CountsFaults faults1 faults3) names2 block content ended
-      → (fault : CallFault) → ended ≡ Err fault
+      → EventWhere Then names1 names2 b c tape1 tape2 now entry
+      → StoreDoes names2 names3 c d tape2 tape3 clock1 clock3 log1 log3 faults1 faults3 block content (Err fault)
       → Does (Did names names3 a d tape tape3 log log3 faults faults3 clock clock3) parts
       (λ entries calls ticks. (outcomes_of entries ≡ met) × HasCause fault entries calls ticks)
-  put_fails before reading block content is runs stored fault failed =
-      let ends : EndsAs {U = Unit {0}} stored.sent (Err fault) =
-      subst (λ (r : Result Unit CallFault). EndsAs stored.sent r) failed stored.ends in
-      let more = put_entries reading block content stored.reading stored.sent in
-      let cause = put_failed (name_of names1 block) block (meta_of (Some names1.meta) block) content stored.sent
-      stored.reading fault (event reading (kind.PutBegin block content) ∷ []) (stored.ran.ticks ++ runs.ticks) ends in
+  put_fails {names2} before reading block content fault is did stored =
+      let ended = put_ended block stored.reading stored.sent in
+      let begun = event reading (kind.PutBegin block content) in
+      let asked = put_sent names2 block content stored.sent in
       record {
-        entries = more ++ before.entries;
-        calls = put_calls names1 block content stored.sent ++ before.calls;
-        ticks = (stored.ran.ticks ++ runs.ticks) ++ before.ticks;
-        done = did_more before (put_does reading block content is runs stored);
+        entries = ended ∷ begun ∷ before.entries;
+        calls = asked ∷ before.calls;
+        ticks = stored.after ++ tick.Taken stored.later ∷ tick.Taken now ∷ before.ticks;
+        done = put_does reading block content before is did stored;
         ends = (
           before.met_so,
-          cause_stays fault before.entries more before.calls (put_calls names1 block content stored.sent)
-              before.ticks (stored.ran.ticks ++ runs.ticks) cause,
+          subst (HasCause fault (ended ∷ begun ∷ before.entries) (asked ∷ before.calls))
+              (append_assoc stored.after (tick.Taken stored.later ∷ []) (tick.Taken now ∷ before.ticks))
+              (cause_stays fault (begun ∷ before.entries) (ended ∷ []) before.calls (asked ∷ [])
+              (tick.Taken now ∷ before.ticks) (stored.after ++ tick.Taken stored.later ∷ []) stored.cause),
         );
         asks = record { asked = before.asks.asked };
       }
 
 -- the begin of a flush
 pub begins_flush : {names names1 : Naming} {a b : Core} {tape tape1 : Option (List Entry)} {log : Option (List Call)}
-    {faults : ℕ} {clock clock1 : Option (List Tick)} (reading mark : ℕ)
-    → Runs names names1 a b tape tape1 clock clock1 (event reading (kind.FlushBegin mark) ∷ [])
-    → SoFar (HasBegun mark) (FlushBegun mark ∷ []) names names1 a b tape tape1 log log faults faults clock clock1 []
-begins_flush {log = log} {faults = faults} reading mark runs = record {
+    {faults : ℕ} {clock clock1 clock2 : Option (List Tick)} {begun now : ℕ} (reading mark : ℕ)
+    → Gains clock clock1 (tick.Taken begun ∷ [])
+    → Event names names1 a b tape tape1 begun (event reading (kind.FlushBegin mark))
+    → Gains clock1 clock2 (tick.Taken now ∷ [])
+    → SoFar (HasBegun mark) (FlushBegun mark ∷ []) names names1 a b tape tape1 log log faults faults clock clock2 [] now
+unfolding starts
+begins_flush {begun = begun} {now = now} reading mark first did second = record {
   entries = event reading (kind.FlushBegin mark) ∷ [];
   calls = [];
-  ticks = runs.ticks;
-  done = record { runs = runs.ran; asked = asked_nothing log faults; requests = refl };
+  ticks = tick.Taken begun ∷ [];
+  done = one_turn (starts {parts = []} first) (plain_turn (Some now) refl did (λ past. refl) second) refl;
   met_so = refl;
   no_bytes = refl;
   asks = record { asked = tt };

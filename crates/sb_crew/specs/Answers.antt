@@ -1,5 +1,6 @@
 -- What the answers of a link are to the core and to the caller.
-use Rattle.std.specs.Prelude.{ℕ, ◌≡◌, List, Result, Ok, Err}
+use Rattle.std.specs.Prelude.{ℕ, ◌+◌, Bool, true, nat_le, List, Option, Some, None, Result, Ok, Err}
+use Rattle.sb_base.specs.declared.line.Expect.{Expect}
 use Rattle.sb_base.specs.declared.entry.Shown.{Shown}
 use Rattle.sb_base.specs.declared.entry.Shown.TheVariants as shown
 use Rattle.sb_world.specs.declared.link.Got.{Got}
@@ -21,9 +22,7 @@ abbrev pub fault_for : LinkFault → CallFault
 fault_for (link.Failed status) = StoreFault status
 fault_for link.Memory = Memory
 
--- a call of the disk ends as a request of its link did
-abbrev pub EndsAs : {T U : Type 0} → Result T LinkFault → Result U CallFault → Type 0
-EndsAs (Ok value) (Ok other) = Unit {0}
-EndsAs (Err fault) (Err other) = other ≡ fault_for fault
-EndsAs (Ok value) (Err other) = ⊥
-EndsAs (Err fault) (Ok other) = ⊥
+-- a GET that began at a reading and has to show a digest began at least the limit after the end of the put that left it
+abbrev pub is_late : ℕ → ℕ → Option Expect → Bool
+is_late limit begun None = true
+is_late limit begun (Some expect) = nat_le (expect.since + limit) begun

@@ -1,22 +1,23 @@
 -- What two runs of calls did, one after the other.
 use Rattle.std.proofs.Common.{ℕ, ◌≡◌, List, [], ◌∷◌, ◌++◌, Option, Some, None, refl, sym, ◌∙◌, ap, subst, append_assoc}
-use Rattle.std.proofs.Common.{◌+◌, ◌-◌, ◌^◌, ◌≤◌, ◌⊎◌, inl, inr, arith, if◌then◌else◌}
+use Rattle.std.proofs.Common.{◌+◌, ◌-◌, ◌^◌, ◌≤◌, ◌⊎◌, inl, inr, arith, if◌then◌else◌, max}
 use Rattle.sb_base.specs.declared.geometry.Geometry.{Geometry}
 use Rattle.sb_base.specs.declared.settings.Settings.{Settings}
 use Rattle.sb_base.specs.declared.entry.Entry.{Entry}
 use Rattle.sb_world.specs.Told.{Gains}
 use Rattle.sb_world.specs.declared.clock.Tick.{Tick}
+use Rattle.sb_world.specs.declared.clock.Tick.TheVariants as tick
 use Rattle.sb_world.specs.declared.link.Call.{Call}
 use Rattle.sb_history.specs.Passes.{IsOfPass}
 use Rattle.sb_history.specs.Requests.{RequestLog}
-use Rattle.sb_history.specs.ClockTrace.{ClockTrace}
-use Rattle.sb_laws.proofs.Joins.{requests_join, clock_traces_join}
+use Rattle.sb_history.specs.ClockTrace.{ClockTrace, PausesAfter}
+use Rattle.sb_laws.proofs.Joins.{requests_join, clock_traces_join, entry_is_ticked}
 use Rattle.sb_core.specs.declared.machine.Core.{Core}
 use Rattle.sb_core.specs.Represents.{Represents, geometry_of, settings_of}
 use Rattle.sb_crew.specs.Names.{Naming, name_of}
 use Rattle.sb_crew.specs.Outcomes.{fault_of}
 use Rattle.sb_crew.specs.Counts.{is_failure, failures, Asked}
-use Rattle.sb_crew.specs.Runs.{only_caller, RunsWhere, DidWhere}
+use Rattle.sb_crew.specs.Runs.{only_caller, next_ticks, RunsWhere, TurnWhere, DidWhere}
 
 -- what was gained, and what was gained then
 pub gains_join : {X : Type 0} (a b c : Option (List X)) (xs ys : List X) → Gains a b xs → Gains b c ys
@@ -80,9 +81,9 @@ pass_joins xs (y ∷ ys) first second = (second.0, pass_joins xs ys first second
 pub runs_join : {Is Then : List Entry → Type 0} {names names' names'' : Naming} {a b c : Core}
     {tape tape' tape'' : Option (List Entry)} {clock clock' clock'' : Option (List Tick)} {xs ys : List Entry}
     {ss ts : List Tick} → ((past : List Entry) → Is past → Then (xs ++ past))
-    → RunsWhere Is names names' a b tape tape' clock clock' xs ss
-    → RunsWhere Then names' names'' b c tape' tape'' clock' clock'' ys ts
-    → RunsWhere Is names names'' a c tape tape'' clock clock'' (ys ++ xs) (ts ++ ss)
+    → RunsWhere Is names names' a b tape tape' clock clock' xs ss None
+    → RunsWhere Then names' names'' b c tape' tape'' clock' clock'' ys ts None
+    → RunsWhere Is names names'' a c tape tape'' clock clock'' (ys ++ xs) (ts ++ ss) None
 runs_join {Is} {Then} {names} {names'} {names''} {a} {b} {c} {tape} {tape'} {tape''} {clock} {clock'} {clock''} {xs}
     {ys} {ss} {ts} leads first second = record {
       same_names = second.same_names ∙ first.same_names;
@@ -104,15 +105,46 @@ runs_join {Is} {Then} {names} {names'} {names''} {a} {b} {c} {tape} {tape'} {tap
           (first.trace past fits is) (subst Q first.base.settings (subst P first.base.geometry later));
     }
 
+-- a run up to a next reading, and the turn that it was taken for
+pub turn_joins : {Is Then : List Entry → Type 0} {names names' names'' : Naming} {a b c : Core}
+    {tape tape' tape'' : Option (List Entry)} {clock clock' clock'' : Option (List Tick)} {xs : List Entry}
+    {ss after : List Tick} {now : ℕ} {entry : Entry} {next : Option ℕ}
+    → ((past : List Entry) → Is past → Then (xs ++ past))
+    → RunsWhere Is names names' a b tape tape' clock clock' xs ss (Some now)
+    → TurnWhere Then names' names'' b c tape' tape'' clock' clock'' now entry next after
+    → RunsWhere Is names names'' a c tape tape'' clock clock'' (entry ∷ xs) (after ++ tick.Taken now ∷ ss) next
+turn_joins {Is} {Then} {names} {names'} {names''} {a} {b} {c} {tape} {tape'} {tape''} {clock} {clock'} {clock''} {xs}
+    {ss} {after} {now} {entry} {next} leads first turn = record {
+      same_names = turn.event.same_names ∙ first.same_names;
+      base = record {
+        geometry = turn.event.base.geometry ∙ first.base.geometry;
+        settings = turn.event.base.settings ∙ first.base.settings;
+      };
+      history = λ past fits is. turn.event.history (xs ++ past) (leads past fits) (first.history past fits is);
+      of_pass = (turn.event.of_pass, first.of_pass);
+      told = gains_join tape tape' tape'' xs (entry ∷ []) first.told turn.event.told;
+      readings = subst (Gains clock clock'') (append_assoc (next_ticks next) after (tick.Taken now ∷ ss))
+          (gains_join clock clock' clock'' (tick.Taken now ∷ ss) (next_ticks next ++ after) first.readings
+          turn.readings);
+      trace = λ past fits is.
+          let before = first.history past fits is in
+          let P : Geometry → Type 0 = λ g. PausesAfter g (settings_of b) (xs ++ past) now entry.kind turn.pause in
+          let Q : Settings → Type 0 = λ s. PausesAfter (geometry_of a) s (xs ++ past) now entry.kind turn.pause in
+          entry_is_ticked (geometry_of a) (settings_of a) only_caller past xs entry next turn.pause now after ss
+          turn.event.of_pass (turn.event.reading ∙ ap (λ (n : ℕ). max now n) before.last)
+          (subst Q first.base.settings (subst P first.base.geometry
+          (turn.pauses (xs ++ past) (leads past fits) before))) turn.paused (first.trace past fits is);
+    }
+
 -- what was done to histories of one kind, and then to those that it leads to
 pub did_join : {Is Then : List Entry → Type 0} {names names' names'' : Naming} {a b c : Core}
     {tape tape' tape'' : Option (List Entry)} {log log' log'' : Option (List Call)} {faults faults' faults'' : ℕ}
     {clock clock' clock'' : Option (List Tick)} {xs ys : List Entry} {us vs : List Call}
     {ss ts : List Tick} → ((past : List Entry) → Is past → Then (xs ++ past))
-    → DidWhere Is names names' a b tape tape' log log' faults faults' clock clock' xs us ss
-    → DidWhere Then names' names'' b c tape' tape'' log' log'' faults' faults'' clock' clock'' ys vs ts
+    → DidWhere Is names names' a b tape tape' log log' faults faults' clock clock' xs us ss None
+    → DidWhere Then names' names'' b c tape' tape'' log' log'' faults' faults'' clock' clock'' ys vs ts None
     → DidWhere Is names names'' a c tape tape'' log log'' faults faults'' clock clock'' (ys ++ xs) (vs ++ us)
-    (ts ++ ss)
+    (ts ++ ss) None
 did_join {Is} {Then} {names} {names'} {names''} {a} {b} {c} {tape} {tape'} {tape''} {log} {log'} {log''} {faults}
     {faults'} {faults''} {clock} {clock'} {clock''} {xs} {ys} {us} {vs} leads first second =
     let P : Naming → Type 0 = λ n. RequestLog (name_of n) (Some n.meta) ys vs in
@@ -123,20 +155,27 @@ did_join {Is} {Then} {names} {names'} {names''} {a} {b} {c} {tape} {tape'} {tape
           (subst P first.runs.same_names second.requests);
     }
 
--- nothing was done
-pub did_nothing : {Is : List Entry → Type 0} {names : Naming} {core : Core} {tape : Option (List Entry)}
-    {log : Option (List Call)} {faults : ℕ} {clock : Option (List Tick)}
-    → DidWhere Is names names core core tape tape log log faults faults clock clock [] [] []
-did_nothing {names} {core} {tape} {log} {faults} {clock} = record {
+-- nothing was done, and a next reading may have been taken
+pub did_begin : {Is : List Entry → Type 0} {names : Naming} {core : Core} {tape : Option (List Entry)}
+    {log : Option (List Call)} {faults : ℕ} {clock clock' : Option (List Tick)} (next : Option ℕ)
+    → Gains clock clock' (next_ticks next ++ [])
+    → DidWhere Is names names core core tape tape log log faults faults clock clock' [] [] [] next
+did_begin {tape = tape} {log = log} {faults = faults} next gains = record {
   runs = record {
     same_names = refl;
     base = record { geometry = refl; settings = refl };
     history = λ past fits is. is;
     of_pass = tt;
     told = gains_nothing tape;
-    readings = gains_nothing clock;
+    readings = gains;
     trace = λ past fits is. refl;
   };
   asked = asked_nothing log faults;
   requests = refl;
 }
+
+-- nothing was done
+pub did_nothing : {Is : List Entry → Type 0} {names : Naming} {core : Core} {tape : Option (List Entry)}
+    {log : Option (List Call)} {faults : ℕ} {clock : Option (List Tick)}
+    → DidWhere Is names names core core tape tape log log faults faults clock clock [] [] [] None
+did_nothing {clock = clock} = did_begin None (gains_nothing clock)

@@ -1,19 +1,25 @@
 -- What the entries of a call of the disk came to. Entries, calls of the link and ticks are newest first.
-use Rattle.std.specs.Prelude.{ℕ, ◌≡◌, ◌<◌, ◌⊎◌, length, List, [], ◌∷◌, ◌++◌, Option, Some, None, Result, Ok, Err, false}
+use Rattle.std.specs.Prelude.{ℕ, ◌≡◌, ◌≢◌, ◌+◌, ◌<◌, ◌⊎◌, length, List, [], ◌∷◌, ◌++◌, Option, Some, None, Result, Ok}
+use Rattle.std.specs.Prelude.{Err, false}
 use Rattle.std.specs.List.{AllByRecursion}
 use Rattle.sb_base.specs.declared.part.Part.{Part}
 use Rattle.sb_base.specs.declared.entry.Entry.{Entry}
 use Rattle.sb_base.specs.declared.entry.EntryKind.{EntryKind}
 use Rattle.sb_base.specs.declared.entry.EntryKind.TheVariants as kind
+use Rattle.sb_base.specs.declared.entry.Shown.{Shown}
 use Rattle.sb_base.specs.declared.entry.Shown.TheVariants as shown
+use Rattle.sb_base.specs.declared.line.Expect.{Expect}
 use Rattle.sb_world.specs.declared.clock.Tick.{Tick}
+use Rattle.sb_world.specs.declared.clock.Tick.TheVariants as tick
 use Rattle.sb_world.specs.declared.link.Call.{Call}
 use Rattle.sb_world.specs.declared.link.Call.TheVariants as call
 use Rattle.sb_world.specs.declared.link.GetReply.TheVariants as get
 use Rattle.sb_world.specs.declared.link.LinkFault.{LinkFault}
 use Rattle.sb_world.specs.declared.link.LinkFault.TheVariants as link
+use Rattle.sb_history.specs.ClockTrace.{wait_pause}
+use Rattle.sb_history.specs.Window.{answer_digest}
 use Rattle.sb_crew.specs.declared.calls.CallFault.{CallFault}
-use Rattle.sb_crew.specs.declared.calls.CallFault.TheVariants.{StoreFault, Memory}
+use Rattle.sb_crew.specs.declared.calls.CallFault.TheVariants.{StoreFault, Memory, StaleRead, ClockStalled}
 
 -- what a request wants done: a read or a write of a part, the begin of a flush, its end
 pub data Outcome : Type 0 where
@@ -77,16 +83,64 @@ fault_of (call.Put name body meta fault) = fault
 fault_of (call.Delete name fault) = fault
 fault_of other = None
 
--- the fault of the link that a call of the disk answers so
-abbrev pub link_fault : CallFault → LinkFault
-link_fault (StoreFault status) = link.Failed status
-link_fault Memory = link.Memory
-
 -- the newest entry is a failure, and the newest call of the link answered this fault
+abbrev pub FailsBy : LinkFault → List Entry → List Call → Type 0
+FailsBy fault (entry ∷ entries) (call ∷ calls) = IsFailure entry.kind × (fault_of call ≡ Some fault)
+FailsBy fault entries calls = ⊥
+
+-- an answer has this digest, an absent object that of a block of zeros
+abbrev pub HasDigest : Option (List ℕ) → Shown → List ℕ → Type 0
+HasDigest verify answer digest = (block_size : ℕ) × (answer_digest block_size verify answer ≡ Some digest)
+
+-- the end of a GET of this block that wasn't taken, whose answer has this digest
+abbrev pub IsUntaken : ℕ → List ℕ → EntryKind → Type 0
+IsUntaken block digest (kind.GetEnd of answer verify taken) =
+    (of ≡ block) × (taken ≡ false) × HasDigest verify answer digest
+IsUntaken block digest other = ⊥
+
+-- a GET has to show this digest
+abbrev pub IsExpected : List ℕ → Option Expect → Type 0
+IsExpected digest None = ⊥
+IsExpected digest (Some expect) = expect.digest ≡ digest
+
+-- the begin of a GET of this block that has to show this digest
+abbrev pub AsksFor : ℕ → List ℕ → EntryKind → Type 0
+AsksFor block digest (kind.GetBegin of expect verify) = (of ≡ block) × IsExpected digest expect
+AsksFor block digest other = ⊥
+
+-- the newest entry is the end of a GET of this block that wasn't taken: it began at this reading, had to show the first
+-- digest and showed the other one
+abbrev pub IsStale : ℕ → List ℕ → List ℕ → ℕ → List Entry → Type 0
+IsStale block expected shown begun (ended ∷ began ∷ entries) =
+    IsUntaken block shown ended.kind × AsksFor block expected began.kind × (began.reading ≡ begun) × (shown ≢ expected)
+IsStale block expected shown begun entries = ⊥
+
+-- an entry after which a reading was taken for it is followed by a pause of so long: a wait for a reading, or the end
+-- of
+-- a GET that wasn't taken
+abbrev pub PausesFor : ℕ → ℕ → EntryKind → Type 0
+PausesFor taken millis (kind.Waited reason) = wait_pause reason taken ≡ Some millis
+PausesFor taken millis (kind.GetEnd block answer verify took) = (took ≡ false) × (millis ≡ 100)
+PausesFor taken millis other = ⊥
+
+-- the newest tick is a reading less than so long after the one that was taken before the pause
+abbrev pub FallsBehind : ℕ → ℕ → ℕ → List Tick → Type 0
+FallsBehind before asked after ticks =
+    (earlier : List Tick) × (ticks ≡ tick.Taken after ∷ tick.Paused asked ∷ tick.Taken before ∷ earlier)
+    × (after < before + asked)
+
+-- the newest entry is the one that paused, and the reading behind its pause came short
+abbrev pub IsStalled : ℕ → ℕ → ℕ → List Entry → List Tick → Type 0
+IsStalled before asked after [] ticks = ⊥
+IsStalled before asked after (entry ∷ entries) ticks =
+    PausesFor before asked entry.kind × FallsBehind before asked after ticks
+
+-- why a call of the disk failed, by its entries, its calls of the link and its ticks
 abbrev pub HasCause : CallFault → List Entry → List Call → List Tick → Type 0
-HasCause fault (entry ∷ entries) (call ∷ calls) ticks =
-    IsFailure entry.kind × (fault_of call ≡ Some (link_fault fault))
-HasCause fault entries calls ticks = ⊥
+HasCause (StoreFault status) entries calls ticks = FailsBy (link.Failed status) entries calls
+HasCause Memory entries calls ticks = FailsBy link.Memory entries calls
+HasCause (StaleRead block expected shown begun) entries calls ticks = IsStale block expected shown begun entries
+HasCause (ClockStalled before asked after) entries calls ticks = IsStalled before asked after entries ticks
 
 -- a proper front of a goal was met, and then a call of the disk failed so
 pub record Stops (goal : List Outcome) (entries : List Entry) (calls : List Call) (ticks : List Tick)
@@ -132,10 +186,16 @@ WriteDoes did part bytes result = Does did (part ∷ []) (WriteEnds part bytes r
 abbrev pub flush_of : ℕ → List Outcome
 flush_of mark = FlushEnded mark ∷ FlushBegun mark ∷ []
 
+-- the fault of a call that reads nothing: none is stale
+abbrev pub IsOfNoRead : CallFault → Type 0
+IsOfNoRead (StaleRead block expected shown begun) = ⊥
+IsOfNoRead other = Unit {0}
+
 -- a flush began and ended with one mark, or it did not and has a cause
 abbrev pub FlushEnds : Result Unit CallFault → List Entry → List Call → List Tick → Type 0
 FlushEnds (Ok done) entries calls ticks = (mark : ℕ) × (outcomes_of entries ≡ flush_of mark)
-FlushEnds (Err fault) entries calls ticks = (mark : ℕ) × Stops (flush_of mark) entries calls ticks fault
+FlushEnds (Err fault) entries calls ticks =
+    (mark : ℕ) × Stops (flush_of mark) entries calls ticks fault × IsOfNoRead fault
 
 abbrev pub FlushDoes : (List Entry → List Call → List Tick → Type 0) → Result Unit CallFault → Type 0
 FlushDoes did result = Does did [] (FlushEnds result)

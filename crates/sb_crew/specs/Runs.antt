@@ -1,18 +1,19 @@
 -- What the calls of a disk on one thread did: how the core moved, and what tape, link and clock gained. Entries, calls
 -- and ticks are newest first.
-use Rattle.std.specs.Prelude.{ℕ, ◌≡◌, ◌*◌, true, List, ◌++◌, Option, Some, None, IsSome}
+use Rattle.std.specs.Prelude.{ℕ, ◌≡◌, ◌*◌, true, max, List, [], ◌∷◌, ◌++◌, Option, Some, None, IsSome}
 use Rattle.sb_base.specs.declared.geometry.Geometry.{Geometry}
 use Rattle.sb_base.specs.declared.entry.Entry.{Entry}
 use Rattle.sb_world.specs.Told.{Gains}
 use Rattle.sb_world.specs.declared.clock.Tick.{Tick}
+use Rattle.sb_world.specs.declared.clock.Tick.TheVariants as tick
 use Rattle.sb_world.specs.declared.link.Call.{Call}
 use Rattle.sb_world.specs.declared.link.Meta.{Meta}
 use Rattle.sb_history.specs.Flushes.{flush_place}
 use Rattle.sb_history.specs.Passes.{IsOfPass}
 use Rattle.sb_history.specs.Requests.{RequestLog}
-use Rattle.sb_history.specs.ClockTrace.{Caller, ClockTrace}
+use Rattle.sb_history.specs.ClockTrace.{Caller, ClockTrace, PausesAfter, PauseTicks}
 use Rattle.sb_core.specs.declared.machine.Core.{Core}
-use Rattle.sb_core.specs.Represents.{Represents, geometry_of, settings_of}
+use Rattle.sb_core.specs.Represents.{Represents, geometry_of, settings_of, reading_of}
 use Rattle.sb_core.specs.Progress.{SameBase}
 use Rattle.sb_crew.specs.Names.{Naming, name_of}
 use Rattle.sb_crew.specs.Counts.{Asked}
@@ -32,43 +33,64 @@ any_past past = Unit {0}
 abbrev pub HasBegun : ℕ → List Entry → Type 0
 HasBegun mark past = IsSome (flush_place past mark)
 
+-- the tick of the next reading, where it was taken before it is known for what
+abbrev pub next_ticks : Option ℕ → List Tick
+next_ticks None = []
+next_ticks (Some now) = tick.Taken now ∷ []
+
+-- an event at a reading: the names stay, the core added this entry to each history of this kind that it represents,
+-- and the tape has it
+pub record EventWhere (Is : List Entry → Type 0) (names names' : Naming) (core core' : Core)
+    (tape tape' : Option (List Entry)) (now : ℕ) (entry : Entry) : Type 0 where
+  pub same_names : names' ≡ names
+  pub base : SameBase core core'
+  pub history : (past : List Entry) → Is past → Represents core past → Represents core' (entry ∷ past)
+  pub of_pass : entry.pass ≡ 1
+  pub reading : entry.reading ≡ max now (reading_of core)
+  pub told : Gains tape tape' (entry ∷ [])
+
+-- the same for histories of every kind
+abbrev pub Event : Naming → Naming → Core → Core → Option (List Entry) → Option (List Entry) → ℕ → Entry → Type 0
+Event names names' core core' tape tape' now entry = EventWhere any_past names names' core core' tape tape' now entry
+
+-- an event at a reading, and what the clock gave then: the ticks of its pause, if it has one, and the next reading, if
+-- one was taken
+pub record TurnWhere (Is : List Entry → Type 0) (names names' : Naming) (core core' : Core)
+    (tape tape' : Option (List Entry)) (clock clock' : Option (List Tick)) (now : ℕ) (entry : Entry)
+    (next : Option ℕ) (after : List Tick) : Type 0 where
+  pub event : EventWhere Is names names' core core' tape tape' now entry
+  pub pause : Option ℕ
+  pub pauses : (past : List Entry) → Is past → Represents core past
+      → PausesAfter (geometry_of core) (settings_of core) past now entry.kind pause
+  pub paused : PauseTicks true now next pause after
+  pub readings : Gains clock clock' (next_ticks next ++ after)
+
 -- the names stay, the core added these entries to each history of this kind that it represents, the tape has them, and
--- the clock gave their readings
+-- the clock gave their readings, and then the next one, if one was taken
 pub record RunsWhere (Is : List Entry → Type 0) (names names' : Naming) (core core' : Core)
     (tape tape' : Option (List Entry)) (clock clock' : Option (List Tick)) (entries : List Entry)
-    (ticks : List Tick) : Type 0 where
+    (ticks : List Tick) (next : Option ℕ) : Type 0 where
   pub same_names : names' ≡ names
   pub base : SameBase core core'
   pub history : (past : List Entry) → Is past → Represents core past → Represents core' (entries ++ past)
   pub of_pass : IsOfPass 1 entries
   pub told : Gains tape tape' entries
-  pub readings : Gains clock clock' ticks
+  pub readings : Gains clock clock' (next_ticks next ++ ticks)
   pub trace : (past : List Entry) → Is past → Represents core past
-      → ClockTrace (geometry_of core) (settings_of core) only_caller past entries None ticks
-
--- the same with some ticks
-pub record TickedWhere (Is : List Entry → Type 0) (names names' : Naming) (core core' : Core)
-    (tape tape' : Option (List Entry)) (clock clock' : Option (List Tick)) (entries : List Entry) : Type 0 where
-  pub ticks : List Tick
-  pub ran : RunsWhere Is names names' core core' tape tape' clock clock' entries ticks
-
--- the same for histories of every kind
-abbrev pub Runs : Naming → Naming → Core → Core → Option (List Entry) → Option (List Entry) → Option (List Tick)
-    → Option (List Tick) → List Entry → Type 0
-Runs names names' core core' tape tape' clock clock' entries =
-    TickedWhere any_past names names' core core' tape tape' clock clock' entries
+      → ClockTrace (geometry_of core) (settings_of core) only_caller past entries next ticks
 
 -- these entries were added, and the link's log gained just the calls that they stand for, under the disk's names
 pub record DidWhere (Is : List Entry → Type 0) (names names' : Naming) (core core' : Core)
     (tape tape' : Option (List Entry)) (log log' : Option (List Call)) (faults faults' : ℕ)
-    (clock clock' : Option (List Tick)) (entries : List Entry) (calls : List Call) (ticks : List Tick) : Type 0 where
-  pub runs : RunsWhere Is names names' core core' tape tape' clock clock' entries ticks
+    (clock clock' : Option (List Tick)) (entries : List Entry) (calls : List Call) (ticks : List Tick)
+    (next : Option ℕ) : Type 0 where
+  pub runs : RunsWhere Is names names' core core' tape tape' clock clock' entries ticks next
   pub asked : Asked log log' faults faults' calls
   pub requests : RequestLog (name_of names) (Some names.meta) entries calls
 
--- the same for histories of every kind
+-- the same for histories of every kind, with no reading taken ahead
 abbrev pub Did : Naming → Naming → Core → Core → Option (List Entry) → Option (List Entry) → Option (List Call)
     → Option (List Call) → ℕ → ℕ → Option (List Tick) → Option (List Tick) → List Entry → List Call → List Tick
     → Type 0
 Did names names' core core' tape tape' log log' faults faults' clock clock' entries calls ticks =
-    DidWhere any_past names names' core core' tape tape' log log' faults faults' clock clock' entries calls ticks
+    DidWhere any_past names names' core core' tape tape' log log' faults faults' clock clock' entries calls ticks None

@@ -1,63 +1,138 @@
 -- What one turn of a call came to, and what a call did so far. Entries and calls of the link are newest first.
-use Rattle.std.specs.Prelude.{ℕ, ◌≡◌, Bool, List, [], ◌∷◌, ◌++◌, Result, Option, Some, is_ok}
+use Rattle.std.specs.Prelude.{ℕ, ◌≡◌, ◌+◌, ◌<◌, ◌≤◌, ◌^◌, ◌⊎◌, Bool, List, [], ◌∷◌, ◌++◌, Result, Ok, Err, Option, Some}
+use Rattle.std.specs.Prelude.{None, is_ok, IfOk}
 use Rattle.sb_base.specs.declared.part.Part.{Part}
 use Rattle.sb_base.specs.declared.entry.Entry.{Entry}
 use Rattle.sb_base.specs.declared.entry.EntryKind.TheVariants as kind
+use Rattle.sb_world.specs.Told.{Gains, CountsFaults}
 use Rattle.sb_world.specs.Calls.{get_reply, fault_of, HasFailed}
 use Rattle.sb_world.specs.declared.clock.Tick.{Tick}
+use Rattle.sb_world.specs.declared.clock.Tick.TheVariants as tick
 use Rattle.sb_world.specs.declared.link.Call.{Call}
 use Rattle.sb_world.specs.declared.link.Call.TheVariants as call
 use Rattle.sb_world.specs.declared.link.Got.{Got}
 use Rattle.sb_world.specs.declared.link.LinkFault.{LinkFault}
+use Rattle.sb_base.specs.declared.line.Why.{Why}
+use Rattle.sb_history.specs.ClockTrace.{wait_pause}
 use Rattle.sb_history.specs.Requests.{meta_of, put_call}
 use Rattle.sb_core.specs.declared.machine.Core.{Core}
+use Rattle.sb_core.specs.declared.job.GetJob.{GetJob}
+use Rattle.sb_core.specs.Progress.{IsCloser, HoldsNothing}
 use Rattle.sb_crew.specs.Names.{Naming, name_of}
-use Rattle.sb_crew.specs.Answers.{shown_for, EndsAs}
+use Rattle.sb_crew.specs.Answers.{shown_for}
 use Rattle.sb_crew.specs.declared.calls.CallFault.{CallFault}
-use Rattle.sb_crew.specs.Outcomes.{Outcome, outcomes_of, bytes_read, AsksOnly}
-use Rattle.sb_crew.specs.Runs.{Did}
+use Rattle.sb_crew.specs.declared.calls.CallFault.TheVariants.{ClockStalled}
+use Rattle.sb_crew.specs.Outcomes.{Outcome, outcomes_of, bytes_read, AsksOnly, HasCause}
+use Rattle.sb_crew.specs.Runs.{any_past, TurnWhere, DidWhere}
 
--- what a call did so far: these outcomes, no bytes that it wants, and it asked for no other blocks than those of these
--- parts. It led to histories of this kind.
+-- what a call did so far, with the next reading taken: these outcomes, no bytes that it wants, and it asked for no
+-- other blocks than those of these parts. It led to histories of this kind.
 pub record SoFar (Then : List Entry → Type 0) (met : List Outcome) (names names' : Naming) (core core' : Core)
     (tape tape' : Option (List Entry)) (log log' : Option (List Call)) (faults faults' : ℕ)
-    (clock clock' : Option (List Tick)) (parts : List Part) : Type 0 where
+    (clock clock' : Option (List Tick)) (parts : List Part) (now : ℕ) : Type 0 where
   pub entries : List Entry
   pub calls : List Call
   pub ticks : List Tick
-  pub done : Did names names' core core' tape tape' log log' faults faults' clock clock' entries calls ticks
+  pub done : DidWhere any_past names names' core core' tape tape' log log' faults faults' clock clock' entries calls
+      ticks (Some now)
   pub met_so : outcomes_of entries ≡ met
   pub no_bytes : bytes_read entries ≡ []
   pub asks : AsksOnly parts entries
   pub leads : (past : List Entry) → Then (entries ++ past)
 
--- what the end of a GET did, by its answer: one entry, and the fault of the call where it failed
-pub record AnswerDoes (runs : List Entry → Type 0) (block : ℕ) (verify : Option (List ℕ)) (got : Result Got LinkFault)
-    (bytes : List ℕ) (result : Result Unit CallFault) : Type 0 where
-  pub reading : ℕ
-  pub taken : Bool
-  pub ran : runs (record {
-    pass = 1;
-    reading = reading;
-    kind = kind.GetEnd block (shown_for got bytes) verify taken;
-  } ∷ [])
-  pub ends : EndsAs got result
+-- the next reading, where a call goes on
+abbrev pub next_of : Result ℕ CallFault → Option ℕ
+next_of (Ok now) = Some now
+next_of (Err fault) = None
 
--- what a GET did: one call of the link, and its end
-pub record FetchDoes (runs : List Entry → Type 0) (asked : List Call → Type 0) (counts : Type 0 → Type 0)
-    (names : Naming) (block : ℕ) (verify : Option (List ℕ)) (result : Result Unit CallFault) : Type 0 where
+-- where a call doesn't go on, these entries, calls of the link and ticks are the cause
+abbrev pub HasCauseIf : List Entry → List Call → List Tick → Result ℕ CallFault → Type 0
+HasCauseIf entries calls ticks (Ok now) = Unit {0}
+HasCauseIf entries calls ticks (Err fault) = HasCause fault entries calls ticks
+
+-- a reading is the clock's last one, and within its limit
+pub record IsLatest (latest now : ℕ) : Type 0 where
+  pub is : latest ≡ now
+  pub limit : now ≤ 2 ^ 62
+
+-- a pause, and the reading taken behind it: the next one where the pause has reached it, and else the clock stands
+-- still
+abbrev pub PauseEnds : ℕ → ℕ → List Tick → Result ℕ CallFault → Type 0
+PauseEnds now millis ticks (Ok next) = (ticks ≡ tick.Taken next ∷ tick.Paused millis ∷ []) × (now + millis ≤ next)
+PauseEnds now millis ticks (Err fault) =
+    (short : ℕ) × (fault ≡ ClockStalled now millis short) × (short < now + millis)
+    × (ticks ≡ tick.Taken short ∷ tick.Paused millis ∷ [])
+
+-- what a pause did to the clock
+pub record Pauses (clock clock' : Option (List Tick)) (latest latest' now millis : ℕ)
+    (result : Result ℕ CallFault) : Type 0 where
+  pub ticks : List Tick
+  pub gained : Gains clock clock' ticks
+  pub ends : PauseEnds now millis ticks result
+  pub next : IfOk result (IsLatest latest')
+  pub later : IfOk result (λ next. latest ≤ next)
+
+-- a wait paused up to the reading that it waits for
+pub record Waits (clock clock' : Option (List Tick)) (latest latest' now : ℕ) (why : Why)
+    (result : Result ℕ CallFault) : Type 0 where
+  pub millis : ℕ
+  pub some : 0 < millis
+  pub pause_is : wait_pause why now ≡ Some millis
+  pub paused : Pauses clock clock' latest latest' now millis result
+
+-- each block is closer, or nothing is held or asked for and time went on
+abbrev pub GoesOn : Core → Core → ℕ → ℕ → Type 0
+GoesOn old new before next = IsCloser old new ⊎ (HoldsNothing new × (before < next))
+
+-- the entries of a GET
+abbrev pub get_begun : GetJob → Entry
+get_begun job =
+    record { pass = 1; reading = job.begun; kind = kind.GetBegin job.block job.expect job.verify }
+
+abbrev pub get_ended : GetJob → ℕ → Result Got LinkFault → List ℕ → Bool → Entry
+get_ended job reading got bytes taken =
+    record { pass = 1; reading = reading; kind = kind.GetEnd job.block (shown_for got bytes) job.verify taken }
+
+-- what a GET did: one call of the link, and its end at a reading that was taken for it
+pub record FetchDoes (names names' : Naming) (core core' : Core) (tape tape' : Option (List Entry))
+    (clock clock' : Option (List Tick)) (log log' : Option (List Call)) (faults faults' : ℕ) (job : GetJob)
+    (result : Result ℕ CallFault) : Type 0 where
   pub got : Result Got LinkFault
   pub bytes : List ℕ
-  pub called : asked (call.Get (name_of names block) verify (get_reply got bytes) ∷ [])
-  pub counted : counts (HasFailed got)
-  pub answer : AnswerDoes runs block verify got bytes result
-
--- what a PUT did: one call of the link, one entry of its end, and the fault of the call where it failed
-pub record StoreDoes (runs : List Entry → Type 0) (asked : List Call → Type 0) (counts : Type 0 → Type 0)
-    (names : Naming) (block : ℕ) (content : List ℕ) (result : Result Unit CallFault) : Type 0 where
-  pub sent : Result Unit LinkFault
+  pub called : Gains log log' (call.Get (name_of names job.block) job.verify (get_reply got bytes) ∷ [])
+  pub counted : CountsFaults faults faults' (HasFailed got)
+  pub later : ℕ
+  pub between : Option (List Tick)
+  pub took : Gains clock between (tick.Taken later ∷ [])
   pub reading : ℕ
-  pub ran : runs (record { pass = 1; reading = reading; kind = kind.PutEnd block (is_ok sent) } ∷ [])
-  pub called : asked (put_call (name_of names block) (meta_of (Some names.meta) block) content (fault_of sent) ∷ [])
-  pub counted : counts (HasFailed sent)
-  pub ends : EndsAs sent result
+  pub taken : Bool
+  pub after : List Tick
+  pub turn : TurnWhere any_past names names' core core' tape tape' between clock' later
+      (get_ended job reading got bytes taken) (next_of result) after
+  pub cause : HasCauseIf (get_ended job reading got bytes taken ∷ get_begun job ∷ [])
+      (call.Get (name_of names job.block) job.verify (get_reply got bytes) ∷ []) (after ++ tick.Taken later ∷ []) result
+
+-- the call of a PUT, and the entry of its end
+abbrev pub put_sent : Naming → ℕ → List ℕ → Result Unit LinkFault → Call
+put_sent names block content sent =
+    put_call (name_of names block) (meta_of (Some names.meta) block) content (fault_of sent)
+
+abbrev pub put_ended : ℕ → ℕ → Result Unit LinkFault → Entry
+put_ended block reading sent = record { pass = 1; reading = reading; kind = kind.PutEnd block (is_ok sent) }
+
+-- what a PUT did: one call of the link, and its end at a reading that was taken for it
+pub record StoreDoes (names names' : Naming) (core core' : Core) (tape tape' : Option (List Entry))
+    (clock clock' : Option (List Tick)) (log log' : Option (List Call)) (faults faults' : ℕ) (block : ℕ)
+    (content : List ℕ) (result : Result ℕ CallFault) : Type 0 where
+  pub sent : Result Unit LinkFault
+  pub called : Gains log log' (put_sent names block content sent ∷ [])
+  pub counted : CountsFaults faults faults' (HasFailed sent)
+  pub later : ℕ
+  pub between : Option (List Tick)
+  pub took : Gains clock between (tick.Taken later ∷ [])
+  pub reading : ℕ
+  pub after : List Tick
+  pub turn : TurnWhere any_past names names' core core' tape tape' between clock' later
+      (put_ended block reading sent) (next_of result) after
+  pub cause : HasCauseIf (put_ended block reading sent ∷ []) (put_sent names block content sent ∷ [])
+      (after ++ tick.Taken later ∷ []) result

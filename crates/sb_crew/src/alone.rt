@@ -26,17 +26,16 @@ pub struct Alone<T> {
 
 impl<T: Tape> Alone<T> {
     ghost use Rattle.sb_world.specs.Told.{Gains};
-    ghost use Rattle.sb_core.specs.Represents.{geometry_of, settings_of, reading_of};
+    ghost use Rattle.sb_core.specs.Represents.{geometry_of, reading_of};
     ghost use Rattle.sb_core.specs.Progress.{IsIdle};
     ghost use Rattle.sb_crew.specs.Disks.{core_of, names_of, tape_of};
     ghost use Rattle.sb_crew.specs.Ready.{IsReady};
 
-    /// A disk over a core with no event behind it and with no window, whose objects have these names. Their prefix has
-    /// at most `MAX_PREFIX` bytes.
+    /// A disk over a core with no event behind it, whose objects have these names. Their prefix has at most
+    /// `MAX_PREFIX` bytes.
     pub fn new(core: Core, names: Names, tape: T) -> Alone<T>
         requires idle { IsIdle core }
         requires fresh { reading_of core ≡ 0 }
-        requires unwindowed { (settings_of core).md5_size ≡ 0 }
         requires prefix { length names.prefix ≤ MAX_PREFIX }
         ensures core { core_of result ≡ core }
         ensures names { names_of result ≡ names }

@@ -8,15 +8,31 @@ ghost use Rattle.sb_world.specs.declared.clock.Tick.{Tick};
 ghost use Rattle.sb_world.specs.declared.link.Call.{Call};
 ghost use Rattle.sb_crew.specs.Outcomes.{ReadDoes, WriteDoes, FlushDoes};
 
-use sb_base::{Geometry, Part};
+use sb_base::{Digest, Geometry, Part};
 
 /// Why a call failed.
 #[derive(Drop, Clone, Copy, PartialEq, Eq, Debug)]
 pub enum CallFault {
     /// The link answered this status. The reply's error is EIO.
-    StoreFault { status: u16 },
+    StoreFault {
+        status: u16,
+    },
     /// The link had no memory. The reply's error is ENOMEM.
     Memory,
+    /// A GET of the block, begun at this reading in milliseconds, showed another MD5 than that of the block's last put,
+    /// which ended at least the stale limit before. The reply's error is EIO.
+    StaleRead {
+        block: u32,
+        expected: Digest,
+        shown: Digest,
+        begun: u64,
+    },
+    /// A pause of so many milliseconds left the clock less than that later. The reply's error is EIO.
+    ClockStalled {
+        before: u64,
+        asked: u64,
+        after: u64,
+    },
 }
 
 /// The calls of a disk that are made with a desk, which has what one thread works with.

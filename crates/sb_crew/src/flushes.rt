@@ -1,12 +1,13 @@
 //! Flushes.
 
-ghost use Rattle.std.specs.Prelude.{◌≡◌, ◌∷◌, [], length, vec_len};
+ghost use Rattle.std.specs.Prelude.{◌≡◌, ◌≤◌, ◌^◌, length, vec_len};
 ghost use Rattle.sb_base.specs.Lines.{entry_kind_of};
 ghost use Rattle.sb_core.specs.Steps.{flush_kind};
 
 use crate::alone::{Alone, PASS};
 use crate::calls::CallFault;
 use crate::desk::Desk;
+use crate::pauses::wait;
 use sb_base::Kind;
 use sb_core::{FlushStep, Mark};
 use sb_world::{Clock, Link, Tape};
@@ -28,35 +29,34 @@ impl<T: Tape> Alone<T> {
     ghost use Rattle.sb_core.specs.Steps.{AnswersFlush, CopiesFlush, flush_begin_entry, flush_step_entry};
     ghost use Rattle.sb_crew.specs.Outcomes.{FlushDoes};
     ghost use Rattle.sb_crew.specs.Ready.{IsReady};
-    ghost use Rattle.sb_crew.specs.Runs.{Runs, TickedWhere, HasBegun, Did};
+    ghost use Rattle.sb_crew.specs.Runs.{Event, EventWhere, HasBegun, Did};
 
-    /// Begins a flush.
-    fn begin_flush<C: Clock>(&mut self, clock: &mut C) -> Mark
+    /// Begins a flush at a reading.
+    fn begin_flush(&mut self, now: u64) -> Mark
+        requires now { now ≤ 2 ^ 62 }
         requires current { self.old.reading ≡ reading_of self.old.core }
-        ensures runs { Runs self.old.names self.new.names self.old.core self.new.core (T.told self.old.tape)
-            (T.told self.new.tape) (C.ticks clock.old) (C.ticks clock.new)
-            (flush_begin_entry 1 self.new.reading result ∷ []) }
+        ensures event { Event self.old.names self.new.names self.old.core self.new.core (T.told self.old.tape)
+            (T.told self.new.tape) now (flush_begin_entry 1 self.new.reading result) }
         ensures idle { IsIdle self.old.core → IsIdle self.new.core }
         ensures current { self.new.reading ≡ reading_of self.new.core }
     {
-        let now = clock.now();
         let mark = self.core.flush_begin(now, PASS);
         self.note(now, Kind::FlushBegin(mark));
         mark
     }
 
-    /// Asks the core for a step of a flush.
-    fn ask_flush<C: Clock>(&mut self, clock: &mut C, room: &mut [u8], mark: Mark) -> FlushStep
+    /// Asks the core for a step of a flush at a reading.
+    fn ask_flush(&mut self, now: u64, room: &mut [u8], mark: Mark) -> FlushStep
+        requires now { now ≤ 2 ^ 62 }
         requires ready { IsReady self.old.core self.old.reading (length room.old) }
-        ensures runs { TickedWhere (HasBegun mark) self.old.names self.new.names self.old.core self.new.core
-            (T.told self.old.tape) (T.told self.new.tape) (C.ticks clock.old) (C.ticks clock.new)
-            (flush_step_entry 1 self.new.reading mark room.new result ∷ []) }
+        ensures event { EventWhere (HasBegun mark) self.old.names self.new.names self.old.core self.new.core
+            (T.told self.old.tape) (T.told self.new.tape) now
+            (flush_step_entry 1 self.new.reading mark room.new result) }
         ensures answer { AnswersFlush self.old.core self.new.reading mark result }
         ensures copies { CopiesFlush self.old.core room.new result }
         ensures leads { FlushLeads self.old.core self.new.core 1 result }
         ensures current { self.new.reading ≡ reading_of self.new.core }
     {
-        let now = clock.now();
         let step = self.core.flush_step(now, PASS, mark, room);
         let kind = flush_kind(&step, mark, room);
         self.note(now, kind);
@@ -78,12 +78,14 @@ impl<T: Tape> Alone<T> {
         let link = &mut desk.link;
         let clock = &mut desk.clock;
         let room = desk.room.as_mut_slice();
-        let mark = self.begin_flush(clock);
+        let begun = clock.now();
+        let mark = self.begin_flush(begun);
+        let mut now = clock.now();
         'turns: loop {
-            match self.ask_flush(clock, room, mark) {
+            match self.ask_flush(now, room, mark) {
                 FlushStep::Done => return Ok(()),
-                FlushStep::Wait(_) => unreachable!(),
-                FlushStep::Put(job) => self.store(link, clock, room, job)?,
+                FlushStep::Wait(why) => now = wait(clock, now, why)?,
+                FlushStep::Put(job) => now = self.store(link, clock, room, job)?,
             }
         }
     }

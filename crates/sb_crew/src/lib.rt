@@ -6,6 +6,7 @@ mod calls;
 mod desk;
 mod flushes;
 mod names;
+mod pauses;
 mod reads;
 mod requests;
 mod writes;

@@ -1,6 +1,6 @@
 //! Reads.
 
-ghost use Rattle.std.specs.Prelude.{◌≡◌, ◌∷◌, [], length, vec_len};
+ghost use Rattle.std.specs.Prelude.{◌≡◌, ◌≤◌, ◌^◌, length, vec_len};
 ghost use Rattle.sb_base.specs.Lines.{entry_kind_of};
 ghost use Rattle.sb_core.specs.Steps.{read_kind};
 ghost use Rattle.sb_base.specs.Ranges.{IsPart};
@@ -8,6 +8,7 @@ ghost use Rattle.sb_base.specs.Ranges.{IsPart};
 use crate::alone::{Alone, PASS};
 use crate::calls::CallFault;
 use crate::desk::Desk;
+use crate::pauses::wait;
 use sb_base::{Kind, Part};
 use sb_core::ReadStep;
 use sb_world::{Clock, Link, Tape};
@@ -31,28 +32,21 @@ impl<T: Tape> Alone<T> {
     ghost use Rattle.sb_core.specs.Steps.{AnswersRead, CopiesRead, read_entry};
     ghost use Rattle.sb_crew.specs.Outcomes.{ReadDoes};
     ghost use Rattle.sb_crew.specs.Ready.{IsReady};
-    ghost use Rattle.sb_crew.specs.Runs.{Runs, Did};
+    ghost use Rattle.sb_crew.specs.Runs.{Event, Did};
 
-    /// Asks the core to read a part.
-    fn ask_read<C: Clock>(
-        &mut self,
-        clock: &mut C,
-        room: &mut [u8],
-        part: Part,
-        out: &mut [u8],
-    ) -> ReadStep
+    /// Asks the core to read a part at a reading.
+    fn ask_read(&mut self, now: u64, room: &mut [u8], part: Part, out: &mut [u8]) -> ReadStep
+        requires now { now ≤ 2 ^ 62 }
         requires ready { IsReady self.old.core self.old.reading (length room.old) }
         requires part { IsPart (geometry_of self.old.core) part }
         requires out { length out.old ≡ part.length }
-        ensures runs { Runs self.old.names self.new.names self.old.core self.new.core (T.told self.old.tape)
-            (T.told self.new.tape) (C.ticks clock.old) (C.ticks clock.new)
-            (read_entry 1 self.new.reading part out.new room.new result ∷ []) }
+        ensures event { Event self.old.names self.new.names self.old.core self.new.core (T.told self.old.tape)
+            (T.told self.new.tape) now (read_entry 1 self.new.reading part out.new room.new result) }
         ensures answer { AnswersRead self.old.core self.new.reading part.block result }
         ensures copies { CopiesRead self.old.core part out.new room.new result }
         ensures leads { ReadLeads self.old.core self.new.core 1 part.block result }
         ensures current { self.new.reading ≡ reading_of self.new.core }
     {
-        let now = clock.now();
         let step = self.core.read(now, PASS, part, out, room);
         let kind = read_kind(&step, part, out, room);
         self.note(now, kind);
@@ -78,13 +72,14 @@ impl<T: Tape> Alone<T> {
         let link = &mut desk.link;
         let clock = &mut desk.clock;
         let room = desk.room.as_mut_slice();
+        let mut now = clock.now();
         'turns: loop {
-            match self.ask_read(clock, room, part, out) {
+            match self.ask_read(now, room, part, out) {
                 ReadStep::Done => return Ok(()),
-                ReadStep::Wait(_) => unreachable!(),
-                ReadStep::Get(job) => self.fetch(link, clock, room, job)?,
-                ReadStep::Dropped(_) => {}
-                ReadStep::Put(job) => self.store(link, clock, room, job)?,
+                ReadStep::Wait(why) => now = wait(clock, now, why)?,
+                ReadStep::Get(job) => now = self.fetch(link, clock, room, job)?,
+                ReadStep::Dropped(_) => now = clock.now(),
+                ReadStep::Put(job) => now = self.store(link, clock, room, job)?,
             }
         }
     }

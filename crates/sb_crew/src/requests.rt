@@ -1,16 +1,20 @@
 //! The requests to the store that a core asks for.
 
-ghost use Rattle.std.specs.Prelude.{◌≡◌, ◌∷◌, [], length, OnOk};
+ghost use Rattle.std.specs.Prelude.{◌≡◌, ◌≤◌, ◌^◌, ◌∷◌, [], length, IfOk, IsOk};
 ghost use Rattle.sb_base.specs.Lines.{shown_of};
 ghost use Rattle.sb_core.specs.Steps.{is_taken};
-ghost use Rattle.sb_crew.specs.Answers.{shown_for, fault_for, EndsAs};
+ghost use Rattle.sb_crew.specs.Answers.{shown_for, fault_for, is_late};
 
 use crate::alone::{Alone, PASS};
 use crate::calls::CallFault;
-use sb_base::{Answer, Kind};
+use crate::pauses::pause;
+use sb_base::{Answer, Expect, Kind};
 use sb_core::{GetDone, GetJob, PutJob};
 use sb_names::MAX_NAME;
 use sb_world::{Clock, Got, Link, LinkFault, Tape};
+
+/// The pause before a stale GET is asked anew, in milliseconds.
+const STALE_PAUSE: u64 = 100;
 
 /// What a GET showed, with the bytes in its buffer.
 fn answer_of<'a>(got: Result<Got, LinkFault>, room: &'a [u8]) -> Answer<'a>
@@ -31,16 +35,6 @@ fn is_taken(done: GetDone) -> bool
     matches!(done, GetDone::Taken)
 }
 
-/// How a request ended.
-fn end_of<X: Drop>(outcome: Result<X, LinkFault>) -> Result<(), CallFault>
-    ensures { EndsAs outcome result }
-{
-    match outcome {
-        Ok(_) => Ok(()),
-        Err(fault) => Err(call_fault(fault)),
-    }
-}
-
 /// The fault of a call whose request failed so.
 fn call_fault(fault: LinkFault) -> CallFault
     ensures { result ≡ fault_for fault }
@@ -51,70 +45,107 @@ fn call_fault(fault: LinkFault) -> CallFault
     }
 }
 
+/// Whether a GET that began at a reading and has to show a digest began at least so many milliseconds after the end of
+/// the put that left it.
+fn is_late(expect: Option<Expect>, begun: u64, limit: u32) -> bool
+    ensures { result ≡ is_late limit begun expect }
+{
+    match expect {
+        Some(expect) => begun as u128 >= expect.since as u128 + limit as u128,
+        None => true,
+    }
+}
+
 impl<T: Tape> Alone<T> {
     ghost use Rattle.std.specs.Prelude.{Some};
     ghost use Rattle.sb_world.specs.Calls.{fault_of, HasFailed, IsAsked};
     ghost use Rattle.sb_world.specs.Told.{Gains, CountsFaults};
     ghost use Rattle.sb_history.specs.Contents.{is_zeros};
     ghost use Rattle.sb_history.specs.Requests.{meta_of, put_call};
+    ghost use Rattle.sb_history.specs.Window.{answer_digest};
     ghost use Rattle.sb_core.specs.Represents.{geometry_of, settings_of, reading_of};
-    ghost use Rattle.sb_core.specs.Progress.{IsCloser};
-    ghost use Rattle.sb_core.specs.Steps.{HasGet, HasPut};
+    ghost use Rattle.sb_core.specs.Progress.{IsCloser, LeavesNothing};
+    ghost use Rattle.sb_core.specs.Steps.{HasGet, HasPut, get_end_answer, get_end_entry};
     ghost use Rattle.sb_crew.specs.Names.{name_of};
     ghost use Rattle.sb_crew.specs.Ready.{IsReady};
-    ghost use Rattle.sb_crew.specs.Runs.{Runs};
-    ghost use Rattle.sb_crew.specs.Turns.{AnswerDoes, FetchDoes, StoreDoes};
+    ghost use Rattle.sb_crew.specs.Runs.{Event};
+    ghost use Rattle.sb_crew.specs.Turns.{FetchDoes, StoreDoes, GoesOn, IsLatest, put_ended};
 
-    /// Makes a GET, and gives its answer to the core.
+    /// Makes a GET, gives its answer to the core, and takes the next reading: behind a pause where the answer is stale,
+    /// so that it is asked anew.
     pub(crate) fn fetch<L: Link, C: Clock>(
         &mut self,
         link: &mut L,
         clock: &mut C,
         room: &mut [u8],
         job: GetJob,
-    ) -> Result<(), CallFault>
+    ) -> Result<u64, CallFault>
         requires job { HasGet self.old.core 1 job }
         requires current { self.old.reading ≡ reading_of self.old.core }
         requires room { length room.old ≡ (geometry_of self.old.core).block_size }
-        requires unwindowed { (settings_of self.old.core).md5_size ≡ 0 }
-        ensures did { FetchDoes (Runs self.old.names self.new.names self.old.core self.new.core
-            (T.told self.old.tape) (T.told self.new.tape) (C.ticks clock.old) (C.ticks clock.new))
-            (Gains (L.log link.old) (L.log link.new)) (CountsFaults (L.faults link.old) (L.faults link.new))
-            self.old.names job.block job.verify result }
+        ensures did { FetchDoes self.old.names self.new.names self.old.core self.new.core
+            (T.told self.old.tape) (T.told self.new.tape) (C.ticks clock.old) (C.ticks clock.new)
+            (L.log link.old) (L.log link.new) (L.faults link.old) (L.faults link.new) job result }
         ensures ready { IsReady self.new.core self.new.reading (length room.new) }
-        ensures closer { OnOk result (IsCloser self.old.core self.new.core) }
+        ensures leads { IfOk result (GoesOn self.old.core self.new.core (C.latest clock.old)) }
+        ensures next { IfOk result (IsLatest (C.latest clock.new)) }
     {
+        let block = job.block();
         let verify = job.verify();
+        let expect = job.expect();
+        let begun = job.begun();
         let mut placed = [0; MAX_NAME];
         let name = self.names.place(job.block(), &mut placed);
         let got = link.get(name, verify, room);
-        self.end_fetch(clock, room, job, got)
+        let now = clock.now();
+        match self.end_fetch(now, room, job, got) {
+            GetDone::Taken => Ok(clock.now()),
+            GetDone::Failed => match got {
+                Ok(_) => unreachable!(),
+                Err(fault) => Err(call_fault(fault)),
+            },
+            GetDone::Stale { expected, shown } => {
+                if is_late(expect, begun, self.core.settings().stale_limit) {
+                    Err(CallFault::StaleRead {
+                        block,
+                        expected,
+                        shown,
+                        begun,
+                    })
+                } else {
+                    pause(clock, now, STALE_PAUSE)
+                }
+            }
+        }
     }
 
-    /// Gives the answer to a GET to the core, with its bytes in the buffer.
-    fn end_fetch<C: Clock>(
+    /// Gives the answer to a GET to the core at a reading, with its bytes in the buffer.
+    fn end_fetch(
         &mut self,
-        clock: &mut C,
+        now: u64,
         room: &[u8],
         job: GetJob,
         got: Result<Got, LinkFault>,
-    ) -> Result<(), CallFault>
+    ) -> GetDone
+        requires now { now ≤ 2 ^ 62 }
         requires job { HasGet self.old.core 1 job }
         requires asked { IsAsked got job.verify }
         requires current { self.old.reading ≡ reading_of self.old.core }
         requires room { length room.now ≡ (geometry_of self.old.core).block_size }
-        requires unwindowed { (settings_of self.old.core).md5_size ≡ 0 }
-        ensures did { AnswerDoes (Runs self.old.names self.new.names self.old.core self.new.core
-            (T.told self.old.tape) (T.told self.new.tape) (C.ticks clock.old) (C.ticks clock.new))
-            job.block job.verify got room.now result }
+        ensures event { Event self.old.names self.new.names self.old.core self.new.core
+            (T.told self.old.tape) (T.told self.new.tape) now
+            (get_end_entry 1 self.new.reading job (shown_for got room.now) result) }
+        ensures answer { result
+            ≡ get_end_answer (geometry_of self.old.core).block_size job (shown_for got room.now) }
         ensures ready { IsReady self.new.core self.new.reading (length room.now) }
-        ensures closer { OnOk result (IsCloser self.old.core self.new.core) }
+        ensures closer { result ≡ GetDone.Taken → IsCloser self.old.core self.new.core }
+        ensures nothing { LeavesNothing self.new.core result }
     {
         let verify = job.verify();
         let block = job.block();
-        let now = clock.now();
         let answer = answer_of(got, room);
-        let taken = is_taken(self.core.get_end(now, PASS, job, answer));
+        let done = self.core.get_end(now, PASS, job, answer);
+        let taken = is_taken(done);
         self.note(
             now,
             Kind::GetEnd {
@@ -124,35 +155,53 @@ impl<T: Tape> Alone<T> {
                 taken,
             },
         );
-        end_of(got)
+        done
     }
 
-    /// Puts the block in the buffer, a delete where it is zeros, and tells the core how that ended.
+    /// Puts the block in the buffer, a delete where it is zeros, tells the core how that ended, and takes the next
+    /// reading.
     pub(crate) fn store<L: Link, C: Clock>(
         &mut self,
         link: &mut L,
         clock: &mut C,
         room: &[u8],
         job: PutJob,
-    ) -> Result<(), CallFault>
+    ) -> Result<u64, CallFault>
         requires job { HasPut self.old.core 1 job }
         requires zeros { job.zeros ≡ is_zeros room.now }
         requires current { self.old.reading ≡ reading_of self.old.core }
         requires room { length room.now ≡ (geometry_of self.old.core).block_size }
-        requires unwindowed { (settings_of self.old.core).md5_size ≡ 0 }
-        ensures did { StoreDoes (Runs self.old.names self.new.names self.old.core self.new.core
-            (T.told self.old.tape) (T.told self.new.tape) (C.ticks clock.old) (C.ticks clock.new))
-            (Gains (L.log link.old) (L.log link.new)) (CountsFaults (L.faults link.old) (L.faults link.new))
-            self.old.names job.block room.now result }
+        ensures did { StoreDoes self.old.names self.new.names self.old.core self.new.core
+            (T.told self.old.tape) (T.told self.new.tape) (C.ticks clock.old) (C.ticks clock.new)
+            (L.log link.old) (L.log link.new) (L.faults link.old) (L.faults link.new) job.block room.now result }
         ensures ready { IsReady self.new.core self.new.reading (length room.now) }
-        ensures closer { OnOk result (IsCloser self.old.core self.new.core) }
+        ensures closer { IfOk result (λ next. IsCloser self.old.core self.new.core) }
+        ensures next { IfOk result (IsLatest (C.latest clock.new)) }
     {
         let block = job.block();
         let sent = self.send(link, room, block, job.zeros());
         let now = clock.now();
+        self.end_store(now, room, job, sent);
+        match sent {
+            Ok(()) => Ok(clock.now()),
+            Err(fault) => Err(call_fault(fault)),
+        }
+    }
+
+    /// Tells the core at a reading how a put ended.
+    fn end_store(&mut self, now: u64, room: &[u8], job: PutJob, sent: Result<(), LinkFault>)
+        requires now { now ≤ 2 ^ 62 }
+        requires job { HasPut self.old.core 1 job }
+        requires current { self.old.reading ≡ reading_of self.old.core }
+        requires room { length room.now ≡ (geometry_of self.old.core).block_size }
+        ensures event { Event self.old.names self.new.names self.old.core self.new.core
+            (T.told self.old.tape) (T.told self.new.tape) now (put_ended job.block self.new.reading sent) }
+        ensures ready { IsReady self.new.core self.new.reading (length room.now) }
+        ensures closer { IsOk sent → IsCloser self.old.core self.new.core }
+    {
+        let block = job.block();
         self.core.put_end(now, PASS, job, sent.is_ok());
         self.note(now, Kind::PutEnd(block, sent.is_ok()));
-        end_of(sent)
     }
 
     /// Asks the store to keep a block.

@@ -1,6 +1,6 @@
 //! Writes.
 
-ghost use Rattle.std.specs.Prelude.{◌≡◌, ◌∷◌, [], length, vec_len};
+ghost use Rattle.std.specs.Prelude.{◌≡◌, ◌≤◌, ◌^◌, length, vec_len};
 ghost use Rattle.sb_base.specs.Lines.{entry_kind_of};
 ghost use Rattle.sb_core.specs.Steps.{write_kind};
 ghost use Rattle.sb_base.specs.Ranges.{IsPart};
@@ -8,6 +8,7 @@ ghost use Rattle.sb_base.specs.Ranges.{IsPart};
 use crate::alone::{Alone, PASS};
 use crate::calls::CallFault;
 use crate::desk::Desk;
+use crate::pauses::wait;
 use sb_base::{Kind, Part};
 use sb_core::WriteStep;
 use sb_world::{Clock, Link, Tape};
@@ -31,28 +32,21 @@ impl<T: Tape> Alone<T> {
     ghost use Rattle.sb_core.specs.Steps.{AnswersWrite, CopiesWrite, write_entry};
     ghost use Rattle.sb_crew.specs.Outcomes.{WriteDoes};
     ghost use Rattle.sb_crew.specs.Ready.{IsReady};
-    ghost use Rattle.sb_crew.specs.Runs.{Runs, Did};
+    ghost use Rattle.sb_crew.specs.Runs.{Event, Did};
 
-    /// Asks the core to write a part.
-    fn ask_write<C: Clock>(
-        &mut self,
-        clock: &mut C,
-        room: &mut [u8],
-        part: Part,
-        bytes: &[u8],
-    ) -> WriteStep
+    /// Asks the core to write a part at a reading.
+    fn ask_write(&mut self, now: u64, room: &mut [u8], part: Part, bytes: &[u8]) -> WriteStep
+        requires now { now ≤ 2 ^ 62 }
         requires ready { IsReady self.old.core self.old.reading (length room.old) }
         requires part { IsPart (geometry_of self.old.core) part }
         requires bytes { length bytes.now ≡ part.length }
-        ensures runs { Runs self.old.names self.new.names self.old.core self.new.core (T.told self.old.tape)
-            (T.told self.new.tape) (C.ticks clock.old) (C.ticks clock.new)
-            (write_entry 1 self.new.reading part bytes.now room.new result ∷ []) }
+        ensures event { Event self.old.names self.new.names self.old.core self.new.core (T.told self.old.tape)
+            (T.told self.new.tape) now (write_entry 1 self.new.reading part bytes.now room.new result) }
         ensures answer { AnswersWrite self.old.core self.new.reading part result }
         ensures copies { CopiesWrite self.old.core room.new result }
         ensures leads { WriteLeads self.old.core self.new.core 1 part.block result }
         ensures current { self.new.reading ≡ reading_of self.new.core }
     {
-        let now = clock.now();
         let step = self.core.write(now, PASS, part, bytes, room);
         let kind = write_kind(&step, part, bytes, room);
         self.note(now, kind);
@@ -78,13 +72,14 @@ impl<T: Tape> Alone<T> {
         let link = &mut desk.link;
         let clock = &mut desk.clock;
         let room = desk.room.as_mut_slice();
+        let mut now = clock.now();
         'turns: loop {
-            match self.ask_write(clock, room, part, bytes) {
+            match self.ask_write(now, room, part, bytes) {
                 WriteStep::Done => return Ok(()),
-                WriteStep::Wait(_) => unreachable!(),
-                WriteStep::Get(job) => self.fetch(link, clock, room, job)?,
-                WriteStep::Dropped(_) => {}
-                WriteStep::Put(job) => self.store(link, clock, room, job)?,
+                WriteStep::Wait(why) => now = wait(clock, now, why)?,
+                WriteStep::Get(job) => now = self.fetch(link, clock, room, job)?,
+                WriteStep::Dropped(_) => now = clock.now(),
+                WriteStep::Put(job) => now = self.store(link, clock, room, job)?,
             }
         }
     }

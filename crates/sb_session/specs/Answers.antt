@@ -8,7 +8,7 @@ use Rattle.sb_world.specs.declared.link.Call.{Call}
 use Rattle.sb_nbd.specs.declared.reply.TheConstants.{EIO, ENOMEM}
 use Rattle.sb_nbd.specs.Requests.{Request}
 use Rattle.sb_crew.specs.declared.calls.CallFault.{CallFault}
-use Rattle.sb_crew.specs.declared.calls.CallFault.TheVariants.{StoreFault, Memory}
+use Rattle.sb_crew.specs.declared.calls.CallFault.TheVariants.{StoreFault, Memory, StaleRead, ClockStalled}
 use Rattle.sb_crew.specs.Outcomes.{Outcome, outcomes_of, bytes_read, flush_of, Stops, Does}
 use Rattle.sb_session.specs.Goals.{refusal, parts_wanted, reads_of, writes_of, goal_of, body_of}
 
@@ -39,6 +39,8 @@ WritesRange did parts payload result = Does did parts (RangeWrites parts payload
 abbrev pub error_of : CallFault → ℕ
 error_of (StoreFault status) = EIO
 error_of Memory = ENOMEM
+error_of (StaleRead block expected shown begun) = EIO
+error_of (ClockStalled before asked after) = EIO
 
 -- the goal was met: error 0, and these bytes
 pub record Completes (goal : List Outcome) (bytes : List ℕ) (entries : List Entry) (error : ℕ)

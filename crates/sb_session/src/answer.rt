@@ -146,6 +146,8 @@ fn number_of(fault: CallFault) -> u32
 {
     match fault {
         CallFault::StoreFault { status: _ } => EIO,
+        CallFault::StaleRead { .. } => EIO,
+        CallFault::ClockStalled { .. } => EIO,
         CallFault::Memory => ENOMEM,
     }
 }

@@ -1,21 +1,32 @@
 //! Sessions over a disk and a connection in memory.
 
 ghost use Rattle.std.specs.Prelude.{◌≡◌, ◌≤◌, ◌*◌, None, IfOk, vec_len, length};
+ghost use Rattle.sb_crew.specs.Answers.{fault_for};
 
 use crate::{SessionEnd, serve};
 use sb_base::{Geometry, Part};
 use sb_crew::{CallFault, Calls};
 use sb_nbd::MAX_PAYLOAD;
-use sb_world::{ReadFault, Sink, Source, WriteFault};
+use sb_world::{LinkFault, ReadFault, Sink, Source, WriteFault};
 use std::alloc::{AllocError, Global};
 use std::test::Fail;
+
+/// The fault of a call whose request failed so.
+fn call_fault(fault: LinkFault) -> CallFault
+    ensures { result ≡ fault_for fault }
+{
+    match fault {
+        LinkFault::Failed { status } => CallFault::StoreFault { status },
+        LinkFault::Memory => CallFault::Memory,
+    }
+}
 
 /// A disk whose next call may be made to fail.
 #[derive(Drop)]
 struct Bytes {
     kept: Vec<u8>,
     geometry: Geometry,
-    fault: Option<CallFault>,
+    fault: Option<LinkFault>,
 }
 
 impl Calls<()> for Bytes {
@@ -35,7 +46,7 @@ impl Calls<()> for Bytes {
 
     fn read(&mut self, _desk: &mut (), part: Part, out: &mut [u8]) -> Result<(), CallFault> {
         match self.fault.take() {
-            Some(fault) => Err(fault),
+            Some(fault) => Err(call_fault(fault)),
             None => {
                 let block_size = self.geometry.block_size as usize;
                 let at = block_size * part.block as usize + part.offset as usize;
@@ -47,7 +58,7 @@ impl Calls<()> for Bytes {
 
     fn write(&mut self, _desk: &mut (), part: Part, bytes: &[u8]) -> Result<(), CallFault> {
         match self.fault.take() {
-            Some(fault) => Err(fault),
+            Some(fault) => Err(call_fault(fault)),
             None => {
                 let block_size = self.geometry.block_size as usize;
                 let at = block_size * part.block as usize + part.offset as usize;
@@ -59,7 +70,7 @@ impl Calls<()> for Bytes {
 
     fn flush(&mut self, _desk: &mut ()) -> Result<(), CallFault> {
         match self.fault.take() {
-            Some(fault) => Err(fault),
+            Some(fault) => Err(call_fault(fault)),
             None => Ok(()),
         }
     }
@@ -221,7 +232,7 @@ fn content(alloc: Global, geometry: Geometry) -> Result<Vec<u8>, AllocError>
 /// Serves a session over a disk of 16 blocks of 4,096 bytes.
 fn run(
     alloc: Global,
-    fault: Option<CallFault>,
+    fault: Option<LinkFault>,
     source: &mut Incoming,
     sink: &mut Outgoing,
     room: &mut [u8],
@@ -286,7 +297,7 @@ fn an_export_is_padded_unless_no_zeroes_are_wanted(rt: HostRuntime) -> Result<()
 /// Whether the reads, in pieces of this length, get these replies, where the disk's first call fails so.
 fn is_read(
     alloc: Global,
-    fault: Option<CallFault>,
+    fault: Option<LinkFault>,
     piece: usize,
     error: u8,
     room: &mut [u8],
@@ -322,7 +333,7 @@ fn reads_in_pieces_of_one_byte_get_the_same_replies(rt: HostRuntime) -> Result<(
 #[test]
 fn a_store_that_failed_is_an_error_and_the_session_goes_on(rt: HostRuntime) -> Result<(), Fail> {
     let mut room = vec![in rt.alloc(); 0; 33_554_432]?;
-    let failed = Some(CallFault::StoreFault { status: 503 });
+    let failed = Some(LinkFault::Failed { status: 503 });
     let told = is_read(rt.alloc(), failed, 4096, 5, room.as_mut_slice())?;
     assert!(rt; told);
     Ok(())
@@ -331,7 +342,7 @@ fn a_store_that_failed_is_an_error_and_the_session_goes_on(rt: HostRuntime) -> R
 #[test]
 fn memory_that_ran_out_is_another_error(rt: HostRuntime) -> Result<(), Fail> {
     let mut room = vec![in rt.alloc(); 0; 33_554_432]?;
-    let memory = Some(CallFault::Memory);
+    let memory = Some(LinkFault::Memory);
     let told = is_read(rt.alloc(), memory, 4096, 12, room.as_mut_slice())?;
     assert!(rt; told);
     Ok(())

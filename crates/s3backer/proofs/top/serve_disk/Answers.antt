@@ -17,7 +17,7 @@ returns g c =
     flushed.new.self.core c.args.desk.link ended.new.desk.link flushed.new.desk.link c.args.desk.clock
     ended.new.desk.clock flushed.new.desk.clock c.args.input.now ended.new.source c.args.output.now ended.new.sink
     c.args.errors.now c.complain_of.new.errors (g.T.Tape.told disk.tape) (g.T.Tape.told ended.new.disk.tape)
-    (g.T.Tape.told flushed.new.self.tape) ended.result flushed.result c.status_of.result c.unwindowed_is_legal.ensures
-    c.unwindowed_flushes.ensures c.unwindowed_survives_crash.ensures fresh
+    (g.T.Tape.told flushed.new.self.tape) ended.result flushed.result c.status_of.result c.sound_is_legal.ensures
+    c.sound_flushes.ensures c.sound_survives_crash.ensures fresh
     (c.new-disk.ensures.names ∙ c.requires.names) ended.ensures.told ended.ensures.read_cause
     ended.ensures.write_cause flushed.ensures.did c.status_of.ensures c.complain_of.ensures)

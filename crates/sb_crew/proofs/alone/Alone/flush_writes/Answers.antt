@@ -1,33 +1,58 @@
 use Rattle.std.proofs.Common.{◌∙◌, List, [], ◌∷◌, refl, sym, ap, arith}
 use Rattle.std.proofs.lemmas.Result.{err_from_is_err_and}
 use Rattle.sb_base.specs.declared.geometry.Geometry.{Geometry}
-use Rattle.sb_base.specs.declared.settings.Settings.{Settings}
 use Rattle.sb_base.specs.declared.entry.EntryKind.TheVariants as kind
 use Rattle.sb_core.specs.Steps.{flush_step_entry}
+use Rattle.sb_core.specs.Progress.{is_idle}
 use Rattle.sb_crew.specs.Outcomes.{Outcome, FlushEnded}
-use Rattle.sb_crew.proofs.Turning.{begun_lasts, begins_flush, after_put, ends_with, put_fails}
+use Rattle.sb_crew.proofs.Asking.{ahead}
+use Rattle.sb_crew.proofs.Pausing.{pause_reads_nothing}
+use Rattle.sb_crew.proofs.Requesting.{put_reads_nothing}
+use Rattle.sb_crew.proofs.Turning.{begun_lasts, begins_flush, after_wait, after_put, ends_with, wait_fails, put_fails}
 use Rattle.sb_crew.proofs.alone.Alone.flush_writes.Goals as goal
 
 pub turns-init : goal.turns-init
 turns-init g c = record {
-  so_far = begins_flush c.begin_flush-mark.new.self.reading c.begin_flush-mark.result c.begin_flush-mark.ensures.runs;
+  so_far = begins_flush c.begin_flush-mark.new.self.reading c.begin_flush-mark.result c.now-begun.ensures.told
+      c.begin_flush-mark.ensures.event c.now-now.ensures.told;
   ready = record {
     idle = c.begin_flush-mark.ensures.idle c.requires.ready.idle;
     current = c.begin_flush-mark.ensures.current;
     whole_room = c.as_mut_slice-room.ensures.len ∙ c.requires.ready.whole_room
-        ∙ ap (λ (geometry : Geometry). geometry.block_size) (sym c.begin_flush-mark.ensures.runs.ran.base.geometry);
-    unwindowed = ap (λ (settings : Settings). settings.md5_size) c.begin_flush-mark.ensures.runs.ran.base.settings
-        ∙ c.requires.ready.unwindowed;
+        ∙ ap (λ (geometry : Geometry). geometry.block_size) (sym c.begin_flush-mark.ensures.event.base.geometry);
   };
+  latest = record { is = c.now-now.ensures.latest; limit = c.now-now.ensures.limit };
 }
+
+pub wait-requires : goal.wait-requires
+wait-requires g c =
+    ahead c.turns.now c.ask_flush.new.self.reading (c.in-Wait.ensures.leads.idle c.turns.invariant.ready.idle)
+    c.ask_flush.ensures.current c.ask_flush.ensures.event.reading
+
+pub turns-preserved-in-Wait : goal.turns-preserved-in-Wait
+turns-preserved-in-Wait g c =
+    let mark = c.begin_flush-mark.result in
+    record {
+      so_far = after_wait (begun_lasts mark) c.turns.invariant.so_far c.ask_flush.new.self.reading c.in-Wait.why
+          (ap (flush_step_entry 1 c.ask_flush.new.self.reading mark c.ask_flush.new.room) c.in-Wait.is)
+          c.ask_flush.ensures.event c.in_ok-now-in-Wait.ensures;
+      ready = record {
+        idle = ap is_idle c.in-Wait.ensures.leads.state ∙ c.turns.invariant.ready.idle;
+        current = c.ask_flush.ensures.current;
+        whole_room = c.ask_flush.auto.room ∙ c.turns.invariant.ready.whole_room
+            ∙ ap (λ (geometry : Geometry). geometry.block_size) (sym c.ask_flush.ensures.event.base.geometry);
+      };
+      latest = c.in_ok-now-in-Wait.ensures.paused.next;
+    }
 
 pub turns-preserved : goal.turns-preserved
 turns-preserved g c = record {
   so_far = after_put (begun_lasts c.begin_flush-mark.result) c.turns.invariant.so_far c.ask_flush.new.self.reading
       c.in-Put.job.block c.ask_flush.new.room
       (ap (flush_step_entry 1 c.ask_flush.new.self.reading c.begin_flush-mark.result c.ask_flush.new.room) c.in-Put.is)
-      c.ask_flush.ensures.runs c.store.ensures.did;
+      c.ask_flush.ensures.event c.in_ok-now-in-Put.ensures.did;
   ready = c.store.ensures.ready;
+  latest = c.in_ok-now-in-Put.ensures.next;
 }
 
 pub returns-in-Done-clause-did : goal.returns-in-Done-clause-did
@@ -35,7 +60,7 @@ returns-in-Done-clause-did g c =
     let mark = c.begin_flush-mark.result in
     let ended = ends_with c.turns.invariant.so_far c.ask_flush.new.self.reading (kind.FlushDone mark)
     (ap (flush_step_entry 1 c.ask_flush.new.self.reading mark c.ask_flush.new.room) c.in-Done.is)
-    refl refl c.ask_flush.ensures.runs in
+    refl refl (λ past. refl) c.ask_flush.ensures.event in
     record {
       entries = ended.entries;
       calls = ended.calls;
@@ -45,13 +70,13 @@ returns-in-Done-clause-did g c =
       asks = ended.asks;
     }
 
-pub returns-in_err-store-in-Put-clause-did : goal.returns-in_err-store-in-Put-clause-did
-returns-in_err-store-in-Put-clause-did g c =
+pub returns-in_err-now-in-Wait-clause-did : goal.returns-in_err-now-in-Wait-clause-did
+returns-in_err-now-in-Wait-clause-did g c =
     let mark = c.begin_flush-mark.result in
-    let ended = put_fails c.turns.invariant.so_far c.ask_flush.new.self.reading c.in-Put.job.block c.ask_flush.new.room
-    (ap (flush_step_entry 1 c.ask_flush.new.self.reading mark c.ask_flush.new.room) c.in-Put.is)
-    c.ask_flush.ensures.runs c.store.ensures.did
-    c.in_err-store-in-Put.field-0.0 c.in_err-store-in-Put.was in
+    let ended = wait_fails c.turns.invariant.so_far c.ask_flush.new.self.reading c.in-Wait.why
+    c.in_err-now-in-Wait.field-0.0
+    (ap (flush_step_entry 1 c.ask_flush.new.self.reading mark c.ask_flush.new.room) c.in-Wait.is)
+    c.ask_flush.ensures.event c.in_err-now-in-Wait.ensures in
     let failed = err_from_is_err_and c.from_residual.result c.from_residual.ensures.1 in
     rw (failed.1, failed.2) record {
       entries = ended.entries;
@@ -66,6 +91,34 @@ returns-in_err-store-in-Put-clause-did g c =
           met = ap (λ (os : List Outcome). FlushEnded mark ∷ os) ended.ends.0;
           cause = ended.ends.1;
         },
+        pause_reads_nothing c.in_err-now-in-Wait.ensures.paused,
+      );
+      asks = ended.asks;
+    }
+
+pub returns-in_err-now-in-Put-clause-did : goal.returns-in_err-now-in-Put-clause-did
+returns-in_err-now-in-Put-clause-did g c =
+    let mark = c.begin_flush-mark.result in
+    let ended = put_fails c.turns.invariant.so_far c.ask_flush.new.self.reading c.in-Put.job.block c.ask_flush.new.room
+    c.in_err-now-in-Put.field-0.0
+    (ap (flush_step_entry 1 c.ask_flush.new.self.reading mark c.ask_flush.new.room) c.in-Put.is)
+    c.ask_flush.ensures.event c.in_err-now-in-Put.ensures.did in
+    let failed = err_from_is_err_and c.from_residual-in_err-now-in-Put.result
+    c.from_residual-in_err-now-in-Put.ensures.1 in
+    rw (failed.1, failed.2) record {
+      entries = ended.entries;
+      calls = ended.calls;
+      ticks = ended.ticks;
+      done = ended.done;
+      ends = (
+        mark,
+        record {
+          missing = FlushEnded mark ∷ [];
+          some = omega (arith);
+          met = ap (λ (os : List Outcome). FlushEnded mark ∷ os) ended.ends.0;
+          cause = ended.ends.1;
+        },
+        put_reads_nothing c.in_err-now-in-Put.field-0.0 _ _ _ c.in_err-now-in-Put.ensures.did.cause,
       );
       asks = ended.asks;
     }

@@ -1,88 +1,33 @@
-use Rattle.std.proofs.Common.{◌∙◌, [], refl, sym, ap, subst, inl}
+use Rattle.std.proofs.Common.{◌∙◌, refl, sym, ap, subst, inl}
+use Rattle.std.proofs.lemmas.Result.{err_from_is_err_and}
 use Rattle.sb_base.specs.declared.geometry.Geometry.{Geometry}
-use Rattle.sb_base.specs.declared.settings.Settings.{Settings}
 use Rattle.sb_base.specs.declared.entry.EntryKind.TheVariants as kind
 use Rattle.sb_base.specs.Ranges.{IsPart}
 use Rattle.sb_core.specs.Steps.{write_entry}
-use Rattle.std.proofs.lemmas.Result.{err_from_is_err_and}
-use Rattle.sb_crew.specs.Joins.{did_nothing}
-use Rattle.sb_crew.proofs.Turning.{any_lasts, after_drop, after_get, after_put, ends_with, get_fails, put_fails}
+use Rattle.sb_core.specs.Progress.{is_idle}
+use Rattle.sb_crew.proofs.Asking.{begun_entry, ahead}
+use Rattle.sb_crew.proofs.Turning.{any_lasts, starts, after_drop, after_wait, after_get, after_put, ends_with}
+use Rattle.sb_crew.proofs.Turning.{wait_fails, get_fails, put_fails}
 use Rattle.sb_crew.proofs.alone.Alone.write_part.Goals as goal
 
 pub turns-init : goal.turns-init
 turns-init g c = record {
-  so_far = record {
-    entries = [];
-    calls = [];
-    ticks = [];
-    done = did_nothing;
-    met_so = refl;
-    no_bytes = refl;
-    asks = record { asked = tt };
-    leads = λ past. tt;
-  };
+  so_far = starts c.now-now.ensures.told;
   ready = record {
     idle = c.requires.ready.idle;
     current = c.requires.ready.current;
     whole_room = c.as_mut_slice-room.ensures.len ∙ c.requires.ready.whole_room;
-    unwindowed = c.requires.ready.unwindowed;
   };
   part = c.requires.part;
+  latest = record { is = c.now-now.ensures.latest; limit = c.now-now.ensures.limit };
 }
-
-pub turns-preserved-in-Continue-1 : goal.turns-preserved-in-Continue-1
-turns-preserved-in-Continue-1 g c =
-    let so_far = after_get any_lasts c.turns.invariant.so_far c.ask_write.new.self.reading c.in-Get.job
-    (ap (write_entry 1 c.ask_write.new.self.reading c.args.part c.args.bytes.now c.ask_write.new.room) c.in-Get.is)
-    (inl (sym c.in-Get.ensures.leads.same_block)) c.ask_write.ensures.runs c.fetch.ensures.did in
-    record {
-      so_far = so_far;
-      ready = c.fetch.ensures.ready;
-      part = subst (λ (geometry : Geometry). IsPart geometry c.args.part)
-          (sym (so_far.done.runs.base.geometry
-          ∙ sym c.turns.invariant.so_far.done.runs.base.geometry)) c.turns.invariant.part;
-    }
-
-pub turns-preserved-in-Dropped : goal.turns-preserved-in-Dropped
-turns-preserved-in-Dropped g c =
-    let so_far = after_drop any_lasts c.turns.invariant.so_far c.ask_write.new.self.reading c.in-Dropped.field-0
-    (ap (write_entry 1 c.ask_write.new.self.reading c.args.part c.args.bytes.now c.ask_write.new.room)
-    c.in-Dropped.is) c.ask_write.ensures.runs in
-    record {
-      so_far = so_far;
-      ready = record {
-        idle = c.in-Dropped.ensures.leads.idle;
-        current = c.ask_write.ensures.current;
-        whole_room = c.ask_write.auto.room ∙ c.turns.invariant.ready.whole_room
-            ∙ ap (λ (geometry : Geometry). geometry.block_size) (sym c.ask_write.ensures.runs.ran.base.geometry);
-        unwindowed = ap (λ (settings : Settings). settings.md5_size) c.ask_write.ensures.runs.ran.base.settings
-            ∙ c.turns.invariant.ready.unwindowed;
-      };
-      part = subst (λ (geometry : Geometry). IsPart geometry c.args.part)
-          (sym (so_far.done.runs.base.geometry
-          ∙ sym c.turns.invariant.so_far.done.runs.base.geometry)) c.turns.invariant.part;
-    }
-
-pub turns-preserved : goal.turns-preserved
-turns-preserved g c =
-    let so_far = after_put any_lasts c.turns.invariant.so_far c.ask_write.new.self.reading c.in-Put.job.block
-    c.ask_write.new.room
-    (ap (write_entry 1 c.ask_write.new.self.reading c.args.part c.args.bytes.now c.ask_write.new.room) c.in-Put.is)
-    c.ask_write.ensures.runs c.store.ensures.did in
-    record {
-      so_far = so_far;
-      ready = c.store.ensures.ready;
-      part = subst (λ (geometry : Geometry). IsPart geometry c.args.part)
-          (sym (so_far.done.runs.base.geometry
-          ∙ sym c.turns.invariant.so_far.done.runs.base.geometry)) c.turns.invariant.part;
-    }
 
 pub returns-in-Done-clause-did : goal.returns-in-Done-clause-did
 returns-in-Done-clause-did g c =
     let ended = ends_with c.turns.invariant.so_far c.ask_write.new.self.reading
     (kind.Write c.args.part c.args.bytes.now)
     (ap (write_entry 1 c.ask_write.new.self.reading c.args.part c.args.bytes.now c.ask_write.new.room)
-    c.in-Done.is) refl refl c.ask_write.ensures.runs in
+    c.in-Done.is) refl refl (λ past. refl) c.ask_write.ensures.event in
     record {
       entries = ended.entries;
       calls = ended.calls;
@@ -92,12 +37,17 @@ returns-in-Done-clause-did g c =
       asks = ended.asks;
     }
 
-pub returns-in_err-fetch-in-Get-clause-did : goal.returns-in_err-fetch-in-Get-clause-did
-returns-in_err-fetch-in-Get-clause-did g c =
-    let ended = get_fails c.turns.invariant.so_far c.ask_write.new.self.reading c.in-Get.job
-    (ap (write_entry 1 c.ask_write.new.self.reading c.args.part c.args.bytes.now c.ask_write.new.room) c.in-Get.is)
-    (inl (sym c.in-Get.ensures.leads.same_block)) c.ask_write.ensures.runs c.fetch.ensures.did
-    c.in_err-fetch-in-Get.field-0.0 c.in_err-fetch-in-Get.was in
+pub wait-requires : goal.wait-requires
+wait-requires g c =
+    ahead c.turns.now c.ask_write.new.self.reading (c.in-Wait.ensures.leads.idle c.turns.invariant.ready.idle)
+    c.ask_write.ensures.current c.ask_write.ensures.event.reading
+
+pub returns-in_err-now-in-Wait-clause-did : goal.returns-in_err-now-in-Wait-clause-did
+returns-in_err-now-in-Wait-clause-did g c =
+    let ended = wait_fails c.turns.invariant.so_far c.ask_write.new.self.reading c.in-Wait.why
+    c.in_err-now-in-Wait.field-0.0
+    (ap (write_entry 1 c.ask_write.new.self.reading c.args.part c.args.bytes.now c.ask_write.new.room) c.in-Wait.is)
+    c.ask_write.ensures.event c.in_err-now-in-Wait.ensures in
     let failed = err_from_is_err_and c.from_residual.result c.from_residual.ensures.1 in
     rw (failed.1, failed.2) record {
       entries = ended.entries;
@@ -108,14 +58,34 @@ returns-in_err-fetch-in-Get-clause-did g c =
       asks = ended.asks;
     }
 
-pub returns-in_err-store-in-Put-clause-did : goal.returns-in_err-store-in-Put-clause-did
-returns-in_err-store-in-Put-clause-did g c =
-    let ended = put_fails c.turns.invariant.so_far c.ask_write.new.self.reading c.in-Put.job.block c.ask_write.new.room
-    (ap (write_entry 1 c.ask_write.new.self.reading c.args.part c.args.bytes.now c.ask_write.new.room) c.in-Put.is)
-    c.ask_write.ensures.runs c.store.ensures.did
-    c.in_err-store-in-Put.field-0.0 c.in_err-store-in-Put.was in
-    let failed = err_from_is_err_and c.from_residual-in_err-store-in-Put.result
-    c.from_residual-in_err-store-in-Put.ensures.1 in
+pub turns-preserved-in-Wait : goal.turns-preserved-in-Wait
+turns-preserved-in-Wait g c =
+    let so_far = after_wait any_lasts c.turns.invariant.so_far c.ask_write.new.self.reading c.in-Wait.why
+    (ap (write_entry 1 c.ask_write.new.self.reading c.args.part c.args.bytes.now c.ask_write.new.room) c.in-Wait.is)
+    c.ask_write.ensures.event c.in_ok-now-in-Wait.ensures in
+    record {
+      so_far = so_far;
+      ready = record {
+        idle = ap is_idle c.in-Wait.ensures.leads.state ∙ c.turns.invariant.ready.idle;
+        current = c.ask_write.ensures.current;
+        whole_room = c.ask_write.auto.room ∙ c.turns.invariant.ready.whole_room
+            ∙ ap (λ (geometry : Geometry). geometry.block_size) (sym c.ask_write.ensures.event.base.geometry);
+      };
+      latest = c.in_ok-now-in-Wait.ensures.paused.next;
+      part = subst (λ (geometry : Geometry). IsPart geometry c.args.part)
+          (sym (so_far.done.runs.base.geometry
+          ∙ sym c.turns.invariant.so_far.done.runs.base.geometry)) c.turns.invariant.part;
+    }
+
+pub returns-in_err-now-in-Get-clause-did : goal.returns-in_err-now-in-Get-clause-did
+returns-in_err-now-in-Get-clause-did g c =
+    let begun = c.in-Get.ensures.leads.reading ∙ sym c.ask_write.ensures.current in
+    let ended = get_fails c.turns.invariant.so_far c.in-Get.job c.in_err-now-in-Get.field-0.0
+    (ap (write_entry 1 c.ask_write.new.self.reading c.args.part c.args.bytes.now c.ask_write.new.room) c.in-Get.is
+    ∙ begun_entry c.in-Get.job c.ask_write.new.self.reading begun)
+    (inl (sym c.in-Get.ensures.leads.same_block)) c.ask_write.ensures.event c.in_err-now-in-Get.ensures.did in
+    let failed = err_from_is_err_and c.from_residual-in_err-now-in-Get.result
+    c.from_residual-in_err-now-in-Get.ensures.1 in
     rw (failed.1, failed.2) record {
       entries = ended.entries;
       calls = ended.calls;
@@ -123,4 +93,71 @@ returns-in_err-store-in-Put-clause-did g c =
       done = ended.done;
       ends = ended.ends;
       asks = ended.asks;
+    }
+
+pub turns-preserved-in-Get : goal.turns-preserved-in-Get
+turns-preserved-in-Get g c =
+    let begun = c.in-Get.ensures.leads.reading ∙ sym c.ask_write.ensures.current in
+    let so_far = after_get any_lasts c.turns.invariant.so_far c.in-Get.job
+    (ap (write_entry 1 c.ask_write.new.self.reading c.args.part c.args.bytes.now c.ask_write.new.room) c.in-Get.is
+    ∙ begun_entry c.in-Get.job c.ask_write.new.self.reading begun)
+    (inl (sym c.in-Get.ensures.leads.same_block)) c.ask_write.ensures.event c.in_ok-now-in-Get.ensures.did in
+    record {
+      so_far = so_far;
+      ready = c.fetch.ensures.ready;
+      latest = c.in_ok-now-in-Get.ensures.next;
+      part = subst (λ (geometry : Geometry). IsPart geometry c.args.part)
+          (sym (so_far.done.runs.base.geometry
+          ∙ sym c.turns.invariant.so_far.done.runs.base.geometry)) c.turns.invariant.part;
+    }
+
+pub turns-preserved-in-Dropped : goal.turns-preserved-in-Dropped
+turns-preserved-in-Dropped g c =
+    let so_far = after_drop any_lasts c.turns.invariant.so_far c.ask_write.new.self.reading c.in-Dropped.field-0
+    (ap (write_entry 1 c.ask_write.new.self.reading c.args.part c.args.bytes.now c.ask_write.new.room) c.in-Dropped.is)
+    c.ask_write.ensures.event c.now-now-in-Dropped.ensures.told in
+    record {
+      so_far = so_far;
+      ready = record {
+        idle = c.in-Dropped.ensures.leads.idle;
+        current = c.ask_write.ensures.current;
+        whole_room = c.ask_write.auto.room ∙ c.turns.invariant.ready.whole_room
+            ∙ ap (λ (geometry : Geometry). geometry.block_size) (sym c.ask_write.ensures.event.base.geometry);
+      };
+      latest = record { is = c.now-now-in-Dropped.ensures.latest; limit = c.now-now-in-Dropped.ensures.limit };
+      part = subst (λ (geometry : Geometry). IsPart geometry c.args.part)
+          (sym (so_far.done.runs.base.geometry
+          ∙ sym c.turns.invariant.so_far.done.runs.base.geometry)) c.turns.invariant.part;
+    }
+
+pub returns-in_err-now-in-Put-clause-did : goal.returns-in_err-now-in-Put-clause-did
+returns-in_err-now-in-Put-clause-did g c =
+    let ended = put_fails c.turns.invariant.so_far c.ask_write.new.self.reading c.in-Put.job.block
+    c.ask_write.new.room c.in_err-now-in-Put.field-0.0
+    (ap (write_entry 1 c.ask_write.new.self.reading c.args.part c.args.bytes.now c.ask_write.new.room) c.in-Put.is)
+    c.ask_write.ensures.event c.in_err-now-in-Put.ensures.did in
+    let failed = err_from_is_err_and c.from_residual-in_err-now-in-Put.result
+    c.from_residual-in_err-now-in-Put.ensures.1 in
+    rw (failed.1, failed.2) record {
+      entries = ended.entries;
+      calls = ended.calls;
+      ticks = ended.ticks;
+      done = ended.done;
+      ends = ended.ends;
+      asks = ended.asks;
+    }
+
+pub turns-preserved : goal.turns-preserved
+turns-preserved g c =
+    let so_far = after_put any_lasts c.turns.invariant.so_far c.ask_write.new.self.reading c.in-Put.job.block
+    c.ask_write.new.room
+    (ap (write_entry 1 c.ask_write.new.self.reading c.args.part c.args.bytes.now c.ask_write.new.room) c.in-Put.is)
+    c.ask_write.ensures.event c.in_ok-now-in-Put.ensures.did in
+    record {
+      so_far = so_far;
+      ready = c.store.ensures.ready;
+      latest = c.in_ok-now-in-Put.ensures.next;
+      part = subst (λ (geometry : Geometry). IsPart geometry c.args.part)
+          (sym (so_far.done.runs.base.geometry
+          ∙ sym c.turns.invariant.so_far.done.runs.base.geometry)) c.turns.invariant.part;
     }

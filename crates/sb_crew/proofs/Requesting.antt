@@ -1,0 +1,396 @@
+-- What a request came to: the calls of a GET and of a PUT, their ends, and the causes of a call that failed by them.
+use Rattle.std.proofs.Common.{ℕ, ◌≡◌, ◌≢◌, ◌+◌, Bool, true, false, if◌then◌else◌, List, [], ◌∷◌, ◌++◌}
+use Rattle.std.proofs.Common.{Option, Some, None, Result, Ok, Err, refl, sym, ◌∙◌, ap, subst, arith}
+use Rattle.std.specs.Str.{bytes_eq}
+use Rattle.std.proofs.lemmas.Slice.Eq.{bytes_eq-Decides}
+use Rattle.std.proofs.lemmas.Bool.{leb-true, leb-false}
+use Rattle.std.proofs.lemmas.Grind.{common_steps}
+use Rattle.sb_base.specs.declared.line.Expect.{Expect}
+use Rattle.sb_base.specs.declared.entry.Shown.TheVariants as shown
+use Rattle.sb_base.specs.declared.entry.Entry.{Entry}
+use Rattle.sb_world.specs.Told.{Gains, CountsFaults}
+use Rattle.sb_world.specs.Calls.{get_reply, HasFailed, IsAsked}
+use Rattle.sb_world.specs.declared.clock.Tick.{Tick}
+use Rattle.sb_world.specs.declared.clock.Tick.TheVariants as tick
+use Rattle.sb_world.specs.declared.link.Call.{Call}
+use Rattle.sb_world.specs.declared.link.Call.TheVariants as call
+use Rattle.sb_world.specs.declared.link.Got.{Got}
+use Rattle.sb_world.specs.declared.link.Got.TheVariants as got
+use Rattle.sb_world.specs.declared.link.LinkFault.{LinkFault}
+use Rattle.sb_world.specs.declared.link.LinkFault.TheVariants as link
+use Rattle.sb_world.specs.declared.link.Meta.{Meta}
+use Rattle.sb_history.specs.Contents.{is_zeros}
+use Rattle.sb_history.specs.Gets.{Fetch}
+use Rattle.sb_history.specs.Requests.{meta_of}
+use Rattle.sb_history.specs.Window.{answer_digest}
+use Rattle.sb_history.specs.ClockTrace.{DiffersInTime, IsAskedAnew, PausesWhere, PauseTicks}
+use Rattle.sb_core.specs.declared.machine.Core.{Core}
+use Rattle.sb_core.specs.declared.job.GetJob.{GetJob}
+use Rattle.sb_core.specs.declared.step.GetDone.{GetDone}
+use Rattle.sb_core.specs.declared.step.GetDone.TheVariants as done
+use Rattle.sb_core.specs.States.{OpenGet}
+use Rattle.sb_core.specs.Represents.{open_get, geometry_of, settings_of}
+use Rattle.sb_core.specs.Steps.{HasGet, judged, is_taken, get_end_entry}
+use Rattle.sb_crew.specs.declared.calls.CallFault.{CallFault}
+use Rattle.sb_crew.specs.declared.calls.CallFault.TheVariants.{StoreFault, Memory, StaleRead, ClockStalled}
+use Rattle.sb_crew.specs.Names.{Naming, name_of}
+use Rattle.sb_crew.specs.Answers.{shown_for, fault_for, is_late}
+use Rattle.sb_crew.specs.Outcomes as outcome
+use Rattle.sb_crew.specs.Outcomes.{IsExpected, HasCause, IsOfNoRead}
+use Rattle.sb_crew.specs.Joins.{gains_nothing}
+use Rattle.sb_crew.specs.Runs.{next_ticks, Event}
+use Rattle.sb_crew.specs.Turns.{next_of, HasCauseIf, get_begun, get_ended, FetchDoes, Pauses, put_sent, put_ended}
+use Rattle.sb_crew.specs.Turns.{StoreDoes}
+use Rattle.sb_crew.proofs.Pausing.{pause_is}
+
+abbrev begun_of : Option OpenGet → ℕ
+begun_of None = 0
+begun_of (Some get) = get.begun
+
+abbrev expect_of : Option OpenGet → Option Expect
+expect_of None = None
+expect_of (Some get) = get.expect
+
+-- the pause after the answer to a job is that after the GET that is open in the history
+pauses_so : (limit : ℕ) (job : GetJob) (fetch : Option Fetch) (digest : Option (List ℕ)) (pause : Option ℕ)
+    → open_get fetch
+    ≡ Some (record { pass = 1; begun = job.begun; expect = job.expect; verify = job.verify })
+    → PausesWhere (DiffersInTime limit job.begun job.expect digest) 100 pause
+    → PausesWhere (IsAskedAnew limit fetch digest) 100 pause
+pauses_so limit job None digest pause is pauses = absurd (cc)
+pauses_so limit job (Some fetch) digest pause is pauses =
+    let P : ℕ → Type 0 = λ n. PausesWhere (DiffersInTime limit n fetch.expect digest) 100 pause in
+    let Q : Option Expect → Type 0 = λ e. PausesWhere (DiffersInTime limit job.begun e digest) 100 pause in
+    subst P (sym (ap begun_of is)) (subst Q (sym (ap expect_of is)) pauses)
+
+-- an answer that was taken doesn't differ
+pub taken_agrees : (limit begun : ℕ) (expect : Option Expect) (digest : Option (List ℕ))
+    → judged expect digest ≡ done.Taken → DiffersInTime limit begun expect digest → ⊥
+taken_agrees limit begun expect None taken differs = absurd (cc)
+taken_agrees limit begun None (Some digest) taken differs = differs
+taken_agrees limit begun (Some expect) (Some digest) taken differs = by (bytes_eq digest expect.digest) refl taken where
+  by : (t : Bool) → bytes_eq digest expect.digest ≡ t
+      → (if t then done.Taken else done.Stale expect.digest digest) ≡ done.Taken → ⊥
+  by true is taken =
+      let decides = bytes_eq-Decides digest expect.digest in
+      let same : digest ≡ expect.digest = grind (arith, common_steps, decides, is) in
+      differs.0 same
+  by false is taken = absurd (cc)
+
+-- an answer that is stale has the other digest
+pub record ShowsOther (expect : Option Expect) (digest : Option (List ℕ)) (expected shown : List ℕ) : Type 0 where
+  pub digest_is : digest ≡ Some shown
+  pub expected_is : IsExpected expected expect
+  pub other : shown ≢ expected
+
+abbrev expected_in : GetDone → List ℕ
+expected_in (done.Stale expected shown) = expected
+expected_in other = []
+
+abbrev shown_in : GetDone → List ℕ
+shown_in (done.Stale expected shown) = shown
+shown_in other = []
+
+pub shows_other : (expect : Option Expect) (digest : Option (List ℕ)) (expected shown : List ℕ)
+    → judged expect digest ≡ done.Stale expected shown → ShowsOther expect digest expected shown
+shows_other expect None expected shown stale = absurd (cc)
+shows_other None (Some digest) expected shown stale = absurd (cc)
+shows_other (Some expect) (Some digest) expected shown stale = by (bytes_eq digest expect.digest) refl stale where
+  by : (t : Bool) → bytes_eq digest expect.digest ≡ t
+      → (if t then done.Taken else done.Stale expect.digest digest) ≡ done.Stale expected shown
+      → ShowsOther (Some expect) (Some digest) expected shown
+  by true is stale = absurd (cc)
+  by false is stale =
+      let decides = bytes_eq-Decides digest expect.digest in
+      let other : digest ≢ expect.digest = λ same. grind (arith, common_steps, decides, is, same) in
+      record {
+        digest_is = ap (λ (d : GetDone). Some (shown_in d)) stale;
+        expected_is = ap expected_in stale;
+        other = subst (λ (e : List ℕ). shown ≢ e) (ap expected_in stale)
+            (subst (λ (d : List ℕ). d ≢ expect.digest) (ap shown_in stale) other);
+      }
+
+-- a late answer isn't asked for anew, and another one is
+pub late_is_over : (limit begun : ℕ) (expect : Option Expect) (digest : Option (List ℕ))
+    → is_late limit begun expect ≡ true → DiffersInTime limit begun expect digest → ⊥
+late_is_over limit begun None digest late differs = differs
+late_is_over limit begun (Some expect) None late differs = differs
+late_is_over limit begun (Some expect) (Some digest) late differs =
+    omega (arith, leb-true (expect.since + limit) begun late, differs.1)
+
+pub differs_in_time : (limit begun : ℕ) (expect : Option Expect) (digest : Option (List ℕ)) (expected shown : List ℕ)
+    → is_late limit begun expect ≡ false → ShowsOther expect digest expected shown
+    → DiffersInTime limit begun expect digest
+differs_in_time limit begun None digest expected shown late stale = absurd (stale.expected_is)
+differs_in_time limit begun (Some expect) None expected shown late stale = absurd (cc)
+differs_in_time limit begun (Some expect) (Some digest) expected shown late stale =
+    let same : digest ≡ shown = cc in (
+      subst (λ (e : List ℕ). digest ≢ e) (sym stale.expected_is)
+          (subst (λ (d : List ℕ). d ≢ expected) (sym same) stale.other),
+      omega (arith, leb-false (expect.since + limit) begun late),
+    )
+
+-- an answer with a digest isn't judged as a failure
+judged_some : (expect : Option Expect) (digest : List ℕ) → judged expect (Some digest) ≡ done.Failed → ⊥
+judged_some None digest failed = absurd (cc)
+judged_some (Some expect) digest failed = by (bytes_eq digest expect.digest) failed where
+  by : (t : Bool) → (if t then done.Taken else done.Stale expect.digest digest) ≡ done.Failed → ⊥
+  by true failed = absurd (cc)
+  by false failed = absurd (cc)
+
+-- an answer of a link isn't judged as a failure
+pub answer_is_judged : (block_size : ℕ) (expect : Option Expect) (verify : Option (List ℕ)) (reply : Got)
+    (bytes : List ℕ) → IsAsked (Ok reply) verify
+    → judged expect (answer_digest block_size verify (shown_for (Ok reply) bytes)) ≡ done.Failed → ⊥
+answer_is_judged block_size expect verify got.Absent bytes asked failed = judged_some expect _ failed
+answer_is_judged block_size expect verify got.Bytes bytes asked failed = judged_some expect _ failed
+answer_is_judged block_size expect None got.Same bytes asked failed = asked
+answer_is_judged block_size expect (Some digest) got.Same bytes asked failed = judged_some expect digest failed
+
+-- a failure has no digest
+pub failure_agrees : (limit begun block_size : ℕ) (expect : Option Expect) (verify : Option (List ℕ))
+    → DiffersInTime limit begun expect (answer_digest block_size verify shown.Failed) → ⊥
+failure_agrees limit begun block_size None verify differs = differs
+failure_agrees limit begun block_size (Some expect) verify differs = differs
+
+-- a fault of the link is the cause of a call that failed by it
+pub fails_by : (fault : LinkFault) (ended : CallFault) (entry : Entry) (entries : List Entry) (asked : Call)
+    (calls : List Call) (ticks : List Tick) → ended ≡ fault_for fault → outcome.IsFailure entry.kind
+    → outcome.fault_of asked ≡ Some fault → HasCause ended (entry ∷ entries) (asked ∷ calls) ticks
+fails_by (link.Failed status) ended entry entries asked calls ticks is failure cause =
+    subst (λ (f : CallFault). HasCause f (entry ∷ entries) (asked ∷ calls) ticks) (sym is) (failure, cause)
+fails_by link.Memory ended entry entries asked calls ticks is failure cause =
+    subst (λ (f : CallFault). HasCause f (entry ∷ entries) (asked ∷ calls) ticks) (sym is) (failure, cause)
+
+-- what a GET did, by the end that the core gave its answer
+module _ {names names' : Naming} {core core' : Core} {tape tape' : Option (List Entry)}
+    {clock clock' : Option (List Tick)} {log log' : Option (List Call)} {faults faults' : ℕ} where
+  fetch_does : {between : Option (List Tick)} (job : GetJob) (answered : Result Got LinkFault) (bytes : List ℕ)
+      (later reading : ℕ) (outcome : GetDone)
+      (result : Result ℕ CallFault) (pause : Option ℕ) (after : List Tick) → HasGet core 1 job
+      → Gains log log' (call.Get (name_of names job.block) job.verify (get_reply answered bytes) ∷ [])
+      → CountsFaults faults faults' (HasFailed answered) → Gains clock between (tick.Taken later ∷ [])
+      → Event names names' core core' tape tape' later (get_end_entry 1 reading job (shown_for answered bytes) outcome)
+      → PausesWhere (DiffersInTime (settings_of core).stale_limit job.begun job.expect
+      (answer_digest (geometry_of core).block_size job.verify (shown_for answered bytes))) 100 pause
+      → PauseTicks true later (next_of result) pause after
+      → Gains between clock' (next_ticks (next_of result) ++ after)
+      → HasCauseIf (get_ended job reading answered bytes (is_taken outcome) ∷ get_begun job ∷ [])
+      (call.Get (name_of names job.block) job.verify (get_reply answered bytes) ∷ [])
+      (after ++ tick.Taken later ∷ []) result
+      → FetchDoes names names' core core' tape tape' clock clock' log log' faults faults' job result
+  fetch_does {between = between} job answered bytes later reading outcome result pause after opened called counted
+      took event pauses paused
+      readings cause = record {
+        got = answered;
+        bytes = bytes;
+        called = called;
+        counted = counted;
+        later = later;
+        between = between;
+        took = took;
+        reading = reading;
+        taken = is_taken outcome;
+        after = after;
+        turn = record {
+          event = event;
+          pause = pause;
+          pauses = λ past is stands.
+              pauses_so (settings_of core).stale_limit job _ _ pause (stands.gets job.block ∙ opened) pauses;
+          paused = paused;
+          readings = readings;
+        };
+        cause = cause;
+      }
+
+  -- its answer was taken
+  pub fetch_taken : {between : Option (List Tick)} (job : GetJob) (answered : Result Got LinkFault) (bytes : List ℕ)
+      (later reading : ℕ)
+      (outcome : GetDone) (next : ℕ) → HasGet core 1 job
+      → Gains log log' (call.Get (name_of names job.block) job.verify (get_reply answered bytes) ∷ [])
+      → CountsFaults faults faults' (HasFailed answered) → Gains clock between (tick.Taken later ∷ [])
+      → Event names names' core core' tape tape' later (get_end_entry 1 reading job (shown_for answered bytes) outcome)
+      → outcome ≡ judged job.expect (answer_digest (geometry_of core).block_size job.verify (shown_for answered bytes))
+      → outcome ≡ done.Taken → Gains between clock' (tick.Taken next ∷ [])
+      → FetchDoes names names' core core' tape tape' clock clock' log log' faults faults' job (Ok next)
+  fetch_taken job answered bytes later reading outcome next opened called counted took event answer is readings =
+      fetch_does job answered bytes later reading outcome (Ok next) None [] opened called counted took event
+      (taken_agrees (settings_of core).stale_limit job.begun job.expect _ (sym answer ∙ is)) refl readings tt
+
+  -- it failed
+  pub fetch_failed : (job : GetJob) (cause : LinkFault) (fault : CallFault) (bytes : List ℕ) (later reading : ℕ)
+      (outcome : GetDone) → HasGet core 1 job
+      → Gains log log' (call.Get (name_of names job.block) job.verify (get_reply (Err cause) bytes) ∷ [])
+      → CountsFaults faults faults' (HasFailed {T = Got} (Err cause)) → Gains clock clock' (tick.Taken later ∷ [])
+      → Event names names' core core' tape tape' later
+      (get_end_entry 1 reading job (shown_for (Err cause) bytes) outcome)
+      → fault ≡ fault_for cause
+      → FetchDoes names names' core core' tape tape' clock clock' log log' faults faults' job (Err fault)
+  fetch_failed job cause fault bytes later reading outcome opened called counted took event is = record {
+    got = Err cause;
+    bytes = bytes;
+    called = called;
+    counted = counted;
+    later = later;
+    between = clock';
+    took = took;
+    reading = reading;
+    taken = is_taken outcome;
+    after = [];
+    turn = record {
+      event = event;
+      pause = None;
+      pauses = λ past held stands.
+          pauses_so (settings_of core).stale_limit job _ _ None (stands.gets job.block ∙ opened)
+          (failure_agrees (settings_of core).stale_limit job.begun (geometry_of core).block_size job.expect job.verify);
+      paused = refl;
+      readings = gains_nothing clock';
+    };
+    cause = fails_by cause fault (get_ended job reading (Err cause) bytes (is_taken outcome)) (get_begun job ∷ [])
+        (call.Get (name_of names job.block) job.verify (get_reply (Err cause) bytes)) [] (tick.Taken later ∷ []) is tt
+        refl;
+  }
+
+  -- its answer was stale, and late
+  pub fetch_stale : (job : GetJob) (answered : Result Got LinkFault) (bytes : List ℕ) (later reading : ℕ)
+      (outcome : GetDone) (expected shown : List ℕ) → HasGet core 1 job
+      → Gains log log' (call.Get (name_of names job.block) job.verify (get_reply answered bytes) ∷ [])
+      → CountsFaults faults faults' (HasFailed answered) → Gains clock clock' (tick.Taken later ∷ [])
+      → Event names names' core core' tape tape' later (get_end_entry 1 reading job (shown_for answered bytes) outcome)
+      → outcome ≡ judged job.expect (answer_digest (geometry_of core).block_size job.verify (shown_for answered bytes))
+      → outcome ≡ done.Stale expected shown
+      → is_late (settings_of core).stale_limit job.begun job.expect ≡ true
+      → FetchDoes names names' core core' tape tape' clock clock' log log' faults faults' job
+      (Err (StaleRead job.block expected shown job.begun))
+  fetch_stale job answered bytes later reading outcome expected shown opened called counted took event answer is late =
+      let other = shows_other job.expect
+      (answer_digest (geometry_of core).block_size job.verify (shown_for answered bytes)) expected shown
+      (sym answer ∙ is) in
+      record {
+        got = answered;
+        bytes = bytes;
+        called = called;
+        counted = counted;
+        later = later;
+        between = clock';
+        took = took;
+        reading = reading;
+        taken = is_taken outcome;
+        after = [];
+        turn = record {
+          event = event;
+          pause = None;
+          pauses = λ past held stands.
+              pauses_so (settings_of core).stale_limit job _ _ None (stands.gets job.block ∙ opened)
+              (late_is_over (settings_of core).stale_limit job.begun job.expect _ late);
+          paused = refl;
+          readings = gains_nothing clock';
+        };
+        cause = (
+          (refl, ap is_taken is, ((geometry_of core).block_size, other.digest_is)),
+          (refl, other.expected_is),
+          refl,
+          other.other,
+        );
+      }
+
+  -- its answer was stale, and it is asked for anew behind a pause
+  pub fetch_paused : {between : Option (List Tick)} {latest latest' : ℕ} (job : GetJob)
+      (answered : Result Got LinkFault) (bytes : List ℕ)
+      (later reading : ℕ) (outcome : GetDone) (expected shown : List ℕ) (result : Result ℕ CallFault)
+      → HasGet core 1 job
+      → Gains log log' (call.Get (name_of names job.block) job.verify (get_reply answered bytes) ∷ [])
+      → CountsFaults faults faults' (HasFailed answered) → Gains clock between (tick.Taken later ∷ [])
+      → Event names names' core core' tape tape' later (get_end_entry 1 reading job (shown_for answered bytes) outcome)
+      → outcome ≡ judged job.expect (answer_digest (geometry_of core).block_size job.verify (shown_for answered bytes))
+      → outcome ≡ done.Stale expected shown
+      → is_late (settings_of core).stale_limit job.begun job.expect ≡ false
+      → Pauses between clock' latest latest' later 100 result
+      → FetchDoes names names' core core' tape tape' clock clock' log log' faults faults' job result
+  fetch_paused job answered bytes later reading outcome expected shown result opened called counted took event answer
+      is late
+      pauses =
+      let other = shows_other job.expect
+      (answer_digest (geometry_of core).block_size job.verify (shown_for answered bytes)) expected shown
+      (sym answer ∙ is) in
+      let paused = pause_is pauses in
+      fetch_does job answered bytes later reading outcome result
+      (Some 100) paused.after opened called counted took event
+      (differs_in_time (settings_of core).stale_limit job.begun job.expect _ expected shown late other, refl)
+      paused.paused paused.readings
+      (paused.cause (get_ended job reading answered bytes (is_taken outcome)) (get_begun job ∷ [])
+      (call.Get (name_of names job.block) job.verify (get_reply answered bytes) ∷ []) [] (ap is_taken is, refl))
+
+-- a put that failed says its fault, as a delete or as a put
+pub put_fault : (zeros : Bool) (name : List ℕ) (meta : Option Meta) (content : List ℕ) (fault : Option LinkFault)
+    → outcome.fault_of (if zeros then call.Delete name fault else call.Put name content meta fault) ≡ fault
+put_fault true name meta content fault = refl
+put_fault false name meta content fault = refl
+
+-- a request of the link doesn't fail as a read
+pub request_reads_nothing : (fault : LinkFault) (ended : CallFault) → ended ≡ fault_for fault → IsOfNoRead ended
+request_reads_nothing (link.Failed status) ended is = subst IsOfNoRead (sym is) tt
+request_reads_nothing link.Memory ended is = subst IsOfNoRead (sym is) tt
+
+-- neither does a PUT
+pub put_reads_nothing : (fault : CallFault) (entry : Entry) (calls : List Call) (ticks : List Tick)
+    → HasCause fault (entry ∷ []) calls ticks → IsOfNoRead fault
+put_reads_nothing (StoreFault status) entry calls ticks cause = tt
+put_reads_nothing Memory entry calls ticks cause = tt
+put_reads_nothing (StaleRead block expected shown begun) entry calls ticks cause = cause
+put_reads_nothing (ClockStalled before asked after) entry calls ticks cause = tt
+
+-- what a PUT did
+module _ {names names' : Naming} {core core' : Core} {tape tape' : Option (List Entry)}
+    {clock clock' : Option (List Tick)} {log log' : Option (List Call)} {faults faults' : ℕ} where
+  pub stored : {between : Option (List Tick)} (block : ℕ) (content : List ℕ) (later reading next : ℕ)
+      → Gains log log' (put_sent names block content (Ok tt) ∷ [])
+      → CountsFaults faults faults' (HasFailed {T = Unit} (Ok tt)) → Gains clock between (tick.Taken later ∷ [])
+      → Event names names' core core' tape tape' later (put_ended block reading (Ok tt))
+      → Gains between clock' (tick.Taken next ∷ [])
+      → StoreDoes names names' core core' tape tape' clock clock' log log' faults faults' block content (Ok next)
+  stored {between = between} block content later reading next called counted took event readings = record {
+    sent = Ok tt;
+    called = called;
+    counted = counted;
+    later = later;
+    between = between;
+    took = took;
+    reading = reading;
+    after = [];
+    turn = record {
+      event = event;
+      pause = None;
+      pauses = λ past is stands. refl;
+      paused = refl;
+      readings = readings;
+    };
+    cause = tt;
+  }
+
+  pub store_failed : (block : ℕ) (content : List ℕ) (cause : LinkFault) (fault : CallFault) (later reading : ℕ)
+      → Gains log log' (put_sent names block content (Err cause) ∷ [])
+      → CountsFaults faults faults' (HasFailed {T = Unit} (Err cause)) → Gains clock clock' (tick.Taken later ∷ [])
+      → Event names names' core core' tape tape' later (put_ended block reading (Err cause))
+      → fault ≡ fault_for cause
+      → StoreDoes names names' core core' tape tape' clock clock' log log' faults faults' block content (Err fault)
+  store_failed block content cause fault later reading called counted took event is = record {
+    sent = Err cause;
+    called = called;
+    counted = counted;
+    later = later;
+    between = clock';
+    took = took;
+    reading = reading;
+    after = [];
+    turn = record {
+      event = event;
+      pause = None;
+      pauses = λ past held stands. refl;
+      paused = refl;
+      readings = gains_nothing clock';
+    };
+    cause = fails_by cause fault (put_ended block reading (Err cause)) [] (put_sent names block content (Err cause)) []
+        (tick.Taken later ∷ []) is refl
+        (put_fault (is_zeros content) (name_of names block) (meta_of (Some names.meta) block) content (Some cause));
+  }

@@ -1,0 +1,23 @@
+use Rattle.std.proofs.Common.{rules}
+use Rattle.sb_crew.proofs.Requesting.{fetch_failed, fetch_stale, fetch_paused}
+use Rattle.sb_crew.proofs.alone.Alone.fetch.Goals as goal
+
+pub returns-in-Err-clause-did : goal.returns-in-Err-clause-did
+returns-in-Err-clause-did g c =
+    fetch_failed c.args.job c.in-Err.fault c.call_fault.result c.get-got.new.out c.now-now.result
+    c.end_fetch.new.self.reading c.end_fetch.result c.requires.job (search rules) c.in-Err.ensures.cause
+    c.now-now.ensures.told (rw c.in-Err.is at c.end_fetch.ensures.event) c.call_fault.ensures
+
+pub returns-then-is_late-clause-did : goal.returns-then-is_late-clause-did
+returns-then-is_late-clause-did g c =
+    rw (c.block-block.ensures, c.begun-begun.ensures) (fetch_stale c.args.job c.get-got.result c.get-got.new.out
+    c.now-now.result c.end_fetch.new.self.reading c.end_fetch.result c.in-Stale.expected c.in-Stale.shown c.requires.job
+    (search rules) c.get-got.ensures.cause c.now-now.ensures.told c.end_fetch.ensures.event c.end_fetch.ensures.answer
+    c.in-Stale.is (search rules))
+
+pub returns-else-is_late-clause-did : goal.returns-else-is_late-clause-did
+returns-else-is_late-clause-did g c =
+    fetch_paused c.args.job c.get-got.result c.get-got.new.out
+    c.now-now.result c.end_fetch.new.self.reading c.end_fetch.result c.in-Stale.expected c.in-Stale.shown c.pause.result
+    c.requires.job (search rules) c.get-got.ensures.cause c.now-now.ensures.told c.end_fetch.ensures.event
+    c.end_fetch.ensures.answer c.in-Stale.is (search rules) c.pause.ensures
