@@ -15,6 +15,7 @@ use Rattle.sb_nbd.specs.declared.wanted.TheConstants.{READ, WRITE, FLUSH}
 use Rattle.sb_nbd.specs.declared.request.TheConstants.{MAX_PAYLOAD}
 use Rattle.sb_nbd.specs.Requests.{Request}
 use Rattle.sb_nbd.specs.declared.reply.TheConstants.{EINVAL, ENOSPC, EIO, ENOMEM}
+use Rattle.sb_crew.specs.Bases.{Base}
 use Rattle.sb_crew.specs.declared.calls.CallFault.{CallFault}
 use Rattle.sb_crew.specs.declared.calls.CallFault.TheVariants.{StoreFault, Memory, StaleRead, ClockStalled}
 use Rattle.sb_crew.specs.Outcomes.{Outcome, HasCause, Stops, FlushEnds}
@@ -48,12 +49,12 @@ quiet_has_none before now calls quiet counts = by counts.risen where
   by (inr high) = absurd (quiet (le_trans (min-le_right (before + 1) (2 ^ 64 - 1)) high))
 
 -- a failed call is one
-cause_fails : (status : ℕ) (entries : List Entry) (calls : List Call) (ticks : List Tick)
-    → HasCause (StoreFault status) entries calls ticks
+cause_fails : (base : Base) (status : ℕ) (entries : List Entry) (calls : List Call) (ticks : List Tick)
+    → HasCause base (StoreFault status) entries calls ticks
     → failures calls ≡ 0 → ⊥
-cause_fails status [] calls ticks cause none = cause
-cause_fails status (entry ∷ entries) [] ticks cause none = cause
-cause_fails status (entry ∷ entries) (asked ∷ calls) ticks cause none =
+cause_fails base status [] calls ticks cause none = cause
+cause_fails base status (entry ∷ entries) [] ticks cause none = cause
+cause_fails base status (entry ∷ entries) (asked ∷ calls) ticks cause none =
     let P : Option LinkFault → Type 0 = λ fault. (if is_failure fault then 1 else 0) + failures calls ≡ 0 in
     let one : 1 + failures calls ≡ 0 = subst P cause.1 none in
     omega (arith, one)
@@ -97,83 +98,84 @@ none_is_other : 0 ≢ EIO
 none_is_other is = absurd (omega (arith, is))
 
 -- the reply to a request none of whose calls failed
-number_otherwise : (fault : CallFault) (goal : List Outcome) (entries : List Entry) (calls : List Call)
-    (ticks : List Tick) (error : ℕ) → Stops goal entries calls ticks fault
-    → error ≡ error_of fault → failures calls ≡ 0 → (error ≢ EIO) ⊎ FailsByTime entries calls ticks
-number_otherwise (StoreFault status) goal entries calls ticks error stops is none =
-    absurd (cause_fails status entries calls ticks stops.cause none)
-number_otherwise Memory goal entries calls ticks error stops is none =
+number_otherwise : (base : Base) (fault : CallFault) (goal : List Outcome) (entries : List Entry)
+    (calls : List Call) (ticks : List Tick) (error : ℕ) → Stops base goal entries calls ticks fault
+    → error ≡ error_of fault → failures calls ≡ 0 → (error ≢ EIO) ⊎ FailsByTime base entries calls ticks
+number_otherwise base (StoreFault status) goal entries calls ticks error stops is none =
+    absurd (cause_fails base status entries calls ticks stops.cause none)
+number_otherwise base Memory goal entries calls ticks error stops is none =
     inl (subst (λ (n : ℕ). n ≢ EIO) (sym is) memory_is_other)
-number_otherwise (StaleRead block expected shown begun) goal entries calls ticks error stops is none =
+number_otherwise base (StaleRead block expected shown begun) goal entries calls ticks error stops is none =
     inr (record { fault = StaleRead block expected shown begun; of_time = tt; cause = stops.cause })
-number_otherwise (ClockStalled before asked after) goal entries calls ticks error stops is none =
+number_otherwise base (ClockStalled before asked after) goal entries calls ticks error stops is none =
     inr (record { fault = ClockStalled before asked after; of_time = tt; cause = stops.cause })
 
-answer_otherwise : (goal : List Outcome) (bytes : List ℕ) (entries : List Entry) (calls : List Call) (ticks : List Tick)
-    (error : ℕ) (body : List ℕ) → failures calls ≡ 0 → IsAnswer goal bytes entries calls ticks error body
-    → (error ≢ EIO) ⊎ FailsByTime entries calls ticks
-answer_otherwise goal bytes entries calls ticks error body none (inl done) =
+answer_otherwise : (base : Base) (goal : List Outcome) (bytes : List ℕ) (entries : List Entry) (calls : List Call)
+    (ticks : List Tick) (error : ℕ) (body : List ℕ) → failures calls ≡ 0
+    → IsAnswer base goal bytes entries calls ticks error body
+    → (error ≢ EIO) ⊎ FailsByTime base entries calls ticks
+answer_otherwise base goal bytes entries calls ticks error body none (inl done) =
     inl (subst (λ (n : ℕ). n ≢ EIO) (sym done.no_error) none_is_other)
-answer_otherwise goal bytes entries calls ticks error body none (inr failed) =
-    number_otherwise failed.fault goal entries calls ticks error failed.stops failed.number none
+answer_otherwise base goal bytes entries calls ticks error body none (inr failed) =
+    number_otherwise base failed.fault goal entries calls ticks error failed.stops failed.number none
 
 reply_otherwise : (refused : Option ℕ) → IsOther refused
-    → (geometry : Geometry) (r : Request) (error : ℕ) (body : List ℕ)
+    → (base : Base) (r : Request) (error : ℕ) (body : List ℕ)
     (entries : List Entry) (calls : List Call) (ticks : List Tick) → failures calls ≡ 0
-    → AnswersBy refused geometry r error body entries calls ticks
-    → (error ≢ EIO) ⊎ FailsByTime entries calls ticks
-reply_otherwise (Some code) other geometry r error body entries calls ticks none answer =
+    → AnswersBy refused base r error body entries calls ticks
+    → (error ≢ EIO) ⊎ FailsByTime base entries calls ticks
+reply_otherwise (Some code) other base r error body entries calls ticks none answer =
     inl (subst (λ (n : ℕ). n ≢ EIO) (sym answer.number) other.code)
-reply_otherwise None other geometry r error body entries calls ticks none answer =
-    answer_otherwise (goal_of geometry r answer.0) (body_of r.wanted entries) entries calls ticks error body none
-    answer.1
+reply_otherwise None other base r error body entries calls ticks none answer =
+    answer_otherwise base (goal_of base.geometry r answer.0) (body_of r.wanted entries) entries calls ticks error body
+    none answer.1
 
-replies_otherwise : (geometry : Geometry) (xs : List Exchange) → failures (calls_of xs) ≡ 0 → IsTranscript geometry xs
-    → AllByRecursion (λ x. (x.error ≢ EIO) ⊎ FailsByTime x.entries x.calls x.ticks) xs
-replies_otherwise geometry [] none answered = tt
-replies_otherwise geometry (x ∷ xs) none answered =
+replies_otherwise : (base : Base) (xs : List Exchange) → failures (calls_of xs) ≡ 0 → IsTranscript base xs
+    → AllByRecursion (λ x. (x.error ≢ EIO) ⊎ FailsByTime base x.entries x.calls x.ticks) xs
+replies_otherwise base [] none answered = tt
+replies_otherwise base (x ∷ xs) none answered =
     let parts = sum_nothing (failures x.calls) (failures (calls_of xs))
     (sym (failures_join x.calls (calls_of xs)) ∙ none) in (
-      reply_otherwise (refusal geometry x.request.wanted)
-          (refused_otherwise geometry x.request.wanted) geometry x.request
+      reply_otherwise (refusal base.geometry x.request.wanted)
+          (refused_otherwise base.geometry x.request.wanted) base x.request
           x.error x.body x.entries x.calls x.ticks parts.0 answered.0.answer,
-      replies_otherwise geometry xs parts.1 answered.1,
+      replies_otherwise base xs parts.1 answered.1,
     )
 
 -- without a fault of the store no reply tells one
-pub none_failed : {geometry : Geometry} {transmission : ℕ} {before now held_before held_now : Option (List ℕ)}
+pub none_failed : {base : Base} {transmission : ℕ} {before now held_before held_now : Option (List ℕ)}
     {ended : SessionEnd} {entries : List Entry} {calls : List Call} {ticks : List Tick} {Unserved : Type 0}
-    (course : Unserved ⊎ Served geometry transmission before now held_before held_now ended entries calls ticks)
+    (course : Unserved ⊎ Served base transmission before now held_before held_now ended entries calls ticks)
     (faults faults' : ℕ) (flush_calls : List Call) → (Rose faults faults' → ⊥)
     → Counts faults faults' (flush_calls ++ calls)
     → NoneFailed course
 none_failed (inl unserved) faults faults' flush_calls quiet counts = tt
-none_failed {geometry} {calls = calls} (inr served) faults faults' flush_calls quiet counts =
+none_failed {base} {calls = calls} (inr served) faults faults' flush_calls quiet counts =
     let none = quiet_has_none faults faults' (flush_calls ++ calls) quiet counts in
     let parts = sum_nothing (failures flush_calls) (failures calls) (sym (failures_join flush_calls calls) ∙ none) in
-    replies_otherwise geometry served.transcript (ap failures (sym served.calls_are) ∙ parts.1) served.answered
+    replies_otherwise base served.transcript (ap failures (sym served.calls_are) ∙ parts.1) served.answered
 
 -- a flush none of whose calls failed ended well, or lacked memory, or its clock stood still
-flushed_well : (flushed : Result Unit CallFault) (entries : List Entry) (calls : List Call) (ticks : List Tick)
-    → FlushEnds flushed entries calls ticks
+flushed_well : (base : Base) (flushed : Result Unit CallFault) (entries : List Entry) (calls : List Call)
+    (ticks : List Tick) → FlushEnds base flushed entries calls ticks
     → failures calls ≡ 0 → (flush_status flushed ≡ 0) ⊎ ((flush_status flushed ≡ 12) ⊎ (flush_status flushed ≡ 11))
-flushed_well (Ok done) entries calls ticks ends none = inl refl
-flushed_well (Err (StoreFault status)) entries calls ticks ends none = absurd
-    (cause_fails status entries calls ticks ends.1.cause none)
-flushed_well (Err Memory) entries calls ticks ends none = inr (inl refl)
-flushed_well (Err (ClockStalled before asked after)) entries calls ticks ends none = inr (inr refl)
-flushed_well (Err (StaleRead block expected shown begun)) entries calls ticks ends none = absurd ends.2
+flushed_well base (Ok done) entries calls ticks ends none = inl refl
+flushed_well base (Err (StoreFault status)) entries calls ticks ends none = absurd
+    (cause_fails base status entries calls ticks ends.1.cause none)
+flushed_well base (Err Memory) entries calls ticks ends none = inr (inl refl)
+flushed_well base (Err (ClockStalled before asked after)) entries calls ticks ends none = inr (inr refl)
+flushed_well base (Err (StaleRead block expected shown begun)) entries calls ticks ends none = absurd ends.2
 
 -- without any fault, and of an input that isn't refused and isn't too long, a run ends well or lacks memory, or its
 -- clock stands still
-pub ended_well : (ended : SessionEnd) (flushed : Result Unit CallFault) (entries : List Entry)
+pub ended_well : (base : Base) (ended : SessionEnd) (flushed : Result Unit CallFault) (entries : List Entry)
     (calls flush_calls : List Call) (flush_ticks : List Tick)
-    (faults faults' : ℕ) {Read Written : Type 0} → FlushEnds flushed entries flush_calls flush_ticks
+    (faults faults' : ℕ) {Read Written : Type 0} → FlushEnds base flushed entries flush_calls flush_ticks
     → (Rose faults faults' → ⊥) → Counts faults faults' (flush_calls ++ calls)
     → (ended ≡ end.ReadFault → Read) → (ended ≡ end.WriteFault → Written) → (Read → ⊥) → (Written → ⊥)
     → ended ≢ end.Refused → ended ≢ end.Spent → (run_status ended flushed ≡ 0)
     ⊎ ((run_status ended flushed ≡ 12) ⊎ (run_status ended flushed ≡ 11))
-ended_well ended flushed entries calls flush_calls flush_ticks faults faults' {Read = Read}
+ended_well base ended flushed entries calls flush_calls flush_ticks faults faults' {Read = Read}
     {Written = Written} ends quiet counts at_read
     at_write read written refused spent =
     by ended at_read at_write refused spent where
@@ -184,9 +186,9 @@ ended_well ended flushed entries calls flush_calls flush_ticks faults faults' {R
       by : (e : SessionEnd) → (e ≡ end.ReadFault → Read) → (e ≡ end.WriteFault → Written) → e ≢ end.Refused
           → e ≢ end.Spent
           → (run_status e flushed ≡ 0) ⊎ ((run_status e flushed ≡ 12) ⊎ (run_status e flushed ≡ 11))
-      by end.Disconnected at_read at_write refused spent = flushed_well flushed entries flush_calls
+      by end.Disconnected at_read at_write refused spent = flushed_well base flushed entries flush_calls
           flush_ticks ends none
-      by end.Ended at_read at_write refused spent = flushed_well flushed entries flush_calls
+      by end.Ended at_read at_write refused spent = flushed_well base flushed entries flush_calls
           flush_ticks ends none
       by end.Refused at_read at_write refused spent = absurd (refused refl)
       by end.ReadFault at_read at_write refused spent = absurd (read (at_read refl))

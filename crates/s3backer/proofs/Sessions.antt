@@ -16,7 +16,8 @@ use Rattle.sb_history.specs.Visibility.{Delays}
 use Rattle.sb_history.specs.Soundness.{IsSoundHistory}
 use Rattle.sb_history.specs.Requests.{RequestLog}
 use Rattle.sb_core.specs.declared.machine.Core.{Core}
-use Rattle.sb_core.specs.Represents.{Represents, geometry_of, nothing_found}
+use Rattle.sb_core.specs.Represents.{Represents, nothing_found}
+use Rattle.sb_crew.specs.Bases.{Base, base_of}
 use Rattle.sb_crew.specs.declared.calls.CallFault.{CallFault}
 use Rattle.sb_crew.specs.declared.calls.CallFault.TheVariants.{StoreFault, Memory, StaleRead, ClockStalled}
 use Rattle.sb_crew.specs.Outcomes.{Outcome, outcomes_of, FlushEnds, FlushDoes}
@@ -24,6 +25,7 @@ use Rattle.sb_crew.specs.Names.{Naming, name_of}
 use Rattle.sb_crew.specs.Runs.{Did, only_caller}
 use Rattle.sb_crew.specs.Joins.{did_join}
 use Rattle.sb_crew.proofs.OutcomeLemmas.{outcomes_join}
+use Rattle.sb_crew.proofs.Turning.{same_base_of}
 use Rattle.sb_session.specs.declared.end.SessionEnd.{SessionEnd}
 use Rattle.sb_session.specs.declared.end.SessionEnd.TheVariants as end
 use Rattle.sb_session.specs.declared.alone.TheConstants.{TRANSMISSION_FLAGS}
@@ -32,7 +34,8 @@ use Rattle.s3backer.proofs.Causes.{none_failed, ended_well}
 use Rattle.s3backer.specs.declared.settings.TheConstants.{SETTINGS}
 use Rattle.s3backer.specs.Fresh.{IsFresh}
 use Rattle.s3backer.specs.Plans.{PlanParts, naming_of}
-use Rattle.s3backer.specs.Headline.{IsWithin, IsHistory, IsSaved, ServesSession, run_status, run_line, ComplainsOf}
+use Rattle.s3backer.specs.Headline.{plan_base, IsWithin, IsHistory, IsSaved, ServesSession, run_status, run_line}
+use Rattle.s3backer.specs.Headline.{ComplainsOf}
 
 -- what was done to a fresh core under the plan's names is a disk's history
 history_of : (plan : PlanParts) (names names' : Naming) (core core' : Core) (tape tape' : Option (List Entry))
@@ -81,16 +84,16 @@ history_of plan names names' core core' tape tape' log log' faults faults' clock
     }
 
 -- a flush that ended well, and the entries before it
-saved_by : (flushed : Result Unit CallFault) (flush session : List Entry) (calls : List Call)
-    (ticks : List Tick) → FlushEnds flushed flush calls ticks
+saved_by : (base : Base) (flushed : Result Unit CallFault) (flush session : List Entry) (calls : List Call)
+    (ticks : List Tick) → FlushEnds base flushed flush calls ticks
     → flushed ≡ Ok tt → IsSaved (flush ++ session)
-saved_by (Ok done) flush session calls ticks ends is = (
+saved_by base (Ok done) flush session calls ticks ends is = (
   ends.0,
   outcomes_of session,
   outcomes_join flush session
       ∙ ap (λ (os : List Outcome). os ++ outcomes_of session) ends.1,
 )
-saved_by (Err fault) flush session calls ticks ends is = absurd (cc)
+saved_by base (Err fault) flush session calls ticks ends is = absurd (cc)
 
 -- status 0 comes only with a flush that ended well
 flushed_at_zero : (ended : SessionEnd) (flushed : Result Unit CallFault) → run_status ended flushed ≡ 0
@@ -110,6 +113,12 @@ flushed_at_zero end.ReadFault flushed zero = absurd (cc)
 flushed_at_zero end.WriteFault flushed zero = absurd (cc)
 flushed_at_zero end.Spent flushed zero = absurd (cc)
 
+-- the base of a fresh core is that of the plan
+fresh_base : (plan : PlanParts) (core : Core) → IsFresh plan.geometry core → base_of core ≡ plan_base plan
+fresh_base plan core fresh =
+    ap (λ (geometry : Geometry). record { geometry = geometry; settings = core.settings }) fresh.geometry_is
+    ∙ ap (λ (settings : Settings). record { geometry = plan.geometry; settings = settings }) fresh.settings_is
+
 -- a session over a fresh core and the flush after it are what a run promises
 pub session_serves : {L C R S : Type 0} (log : L → Option (List Call)) (link_faults : L → ℕ)
     (ticks : C → Option (List Tick)) (left : R → Option (List ℕ)) (read_faults : R → ℕ)
@@ -119,22 +128,28 @@ pub session_serves : {L C R S : Type 0} (log : L → Option (List Call)) (link_f
     (flushed : Result Unit CallFault) (status : ℕ)
     → SoundIsLegal → SoundFlushes → SoundSurvivesCrash → IsFresh plan.geometry core
     → names ≡ naming_of plan
-    → SessionTold (geometry_of core) TRANSMISSION_FLAGS (left input) (left input') (held output) (held output')
+    → SessionTold (base_of core) TRANSMISSION_FLAGS (left input) (left input') (held output) (held output')
     (Did names names1 core mid tape tape1 (log link) (log link1) (link_faults link) (link_faults link1) (ticks clock)
     (ticks clock1)) ended
     → CountsFaults (read_faults input) (read_faults input') (ended ≡ end.ReadFault)
     → CountsFaults (write_faults output) (write_faults output') (ended ≡ end.WriteFault)
-    → FlushDoes (Did names1 names' mid core' tape1 tape' (log link1) (log link') (link_faults link1) (link_faults link')
-    (ticks clock1) (ticks clock')) flushed
+    → FlushDoes (base_of mid) (Did names1 names' mid core' tape1 tape' (log link1) (log link') (link_faults link1)
+    (link_faults link') (ticks clock1) (ticks clock')) flushed
     → status ≡ run_status ended flushed
     → ComplainsOf (run_line ended flushed) (held errors) (held errors') (write_faults errors) (write_faults errors')
     → ServesSession log link_faults ticks left read_faults held write_faults plan link link' clock clock' input input'
     output output' errors errors' tape tape' status
 session_serves log link_faults ticks left read_faults held write_faults plan names names1 names' core mid core' link
     link1 link' clock clock1 clock' input input' output output' errors errors' tape tape1 tape' ended flushed status
-    legal flushes survives fresh named told read_cause write_cause flush status_is complains =
+    legal flushes survives fresh named session read_cause write_cause flush status_is complains =
+    let P : Base → Type 0 = λ base. SessionTold base TRANSMISSION_FLAGS (left input) (left input') (held output)
+    (held output') (Did names names1 core mid tape tape1 (log link) (log link1) (link_faults link) (link_faults link1)
+    (ticks clock) (ticks clock1)) ended in
+    let begun = fresh_base plan core fresh in
+    let told = subst P begun session in
+    let ends = subst (λ (base : Base). FlushEnds base flushed flush.entries flush.calls flush.ticks)
+    (same_base_of told.done.runs.base ∙ begun) flush.ends in
     let did = did_join (λ past fits. fits) told.done flush.done in
-    let course = rw fresh.geometry_is at told.course in
     record {
       entries = told.entries;
       calls = told.calls;
@@ -147,22 +162,22 @@ session_serves log link_faults ticks left read_faults held write_faults plan nam
           (flush.ticks ++ told.ticks)
           legal flushes survives fresh named did;
       ended = ended;
-      course = course;
+      course = told.course;
       read_cause = read_cause.rises;
       write_cause = write_cause.rises;
       link_counts = did.asked.counted;
       flushed = flushed;
-      flushes = flush.ends;
+      flushes = ends;
       flush_asks = flush.asks;
       status_is = status_is;
       complains = complains;
-      saved = λ zero. saved_by flushed flush.entries told.entries flush.calls flush.ticks flush.ends
+      saved = λ zero. saved_by (plan_base plan) flushed flush.entries told.entries flush.calls flush.ticks ends
           (flushed_at_zero ended flushed (sym status_is ∙ zero));
-      no_failed_reply = λ quiet. none_failed course (link_faults link)
+      no_failed_reply = λ quiet. none_failed told.course (link_faults link)
           (link_faults link') flush.calls quiet did.asked.counted;
       ends_well = λ quiet read written refused spent.
           subst (λ (n : ℕ). (n ≡ 0) ⊎ ((n ≡ 12) ⊎ (n ≡ 11))) (sym status_is)
-          (ended_well ended flushed flush.entries told.calls flush.calls flush.ticks (link_faults link)
-          (link_faults link') flush.ends quiet
+          (ended_well (plan_base plan) ended flushed flush.entries told.calls flush.calls flush.ticks (link_faults link)
+          (link_faults link') ends quiet
           did.asked.counted read_cause.rises write_cause.rises read written refused spent);
     }

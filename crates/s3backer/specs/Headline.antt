@@ -22,6 +22,7 @@ use Rattle.sb_history.specs.ClockTrace.{ClockTrace}
 use Rattle.sb_history.specs.AccessRules.{FollowsAccessRules}
 use Rattle.sb_history.specs.CachePolicy.{FollowsCachePolicy}
 use Rattle.sb_core.specs.Represents.{nothing_found}
+use Rattle.sb_crew.specs.Bases.{Base}
 use Rattle.sb_crew.specs.Names.{name_of}
 use Rattle.sb_crew.specs.declared.calls.CallFault.{CallFault}
 use Rattle.sb_crew.specs.declared.calls.CallFault.TheVariants.{StoreFault, Memory, StaleRead, ClockStalled}
@@ -93,6 +94,10 @@ abbrev pub ComplainsOf : Option (List ℕ) → Option (List ℕ) → Option (Lis
 ComplainsOf None held held' faults faults' = held' ≡ held
 ComplainsOf (Some line) held held' faults faults' = Complains held held' faults faults' line
 
+-- the size and the settings of a plan's disk
+abbrev pub plan_base : PlanParts → Base
+plan_base plan = record { geometry = plan.geometry; settings = SETTINGS }
+
 -- the store shows old versions and keeps puts apart only within delays that the settings cover, and no MD5s collide
 pub record IsWithin (geometry : Geometry) (start : Start) (delays : Delays) (entries : List Entry) : Type 0 where
   pub sized : FillBlocks geometry.block_size start
@@ -126,27 +131,26 @@ IsOfTime Memory = ⊥
 IsOfTime (StaleRead block expected shown begun) = Unit {0}
 IsOfTime (ClockStalled before asked after) = Unit {0}
 
--- a request with these entries, calls of the link and ticks failed so
-pub record FailsByTime (entries : List Entry) (calls : List Call) (ticks : List Tick) : Type 0 where
+-- a request to a disk with this base, with these entries, calls of the link and ticks, failed so
+pub record FailsByTime (base : Base) (entries : List Entry) (calls : List Call) (ticks : List Tick) : Type 0 where
   pub fault : CallFault
   pub of_time : IsOfTime fault
-  pub cause : HasCause fault entries calls ticks
+  pub cause : HasCause base fault entries calls ticks
 
 -- no reply of a session has the error of a store that failed, but for a stale read or a clock that stands still
-abbrev pub NoneFailed : {geometry : Geometry} {transmission : ℕ} {before now held_before held_now : Option (List ℕ)}
+abbrev pub NoneFailed : {base : Base} {transmission : ℕ} {before now held_before held_now : Option (List ℕ)}
     {ended : SessionEnd} {entries : List Entry} {calls : List Call} {session_ticks : List Tick} {Unserved : Type 0}
-    → Unserved ⊎ Served geometry transmission before now held_before held_now ended entries calls session_ticks → Type 0
+    → Unserved ⊎ Served base transmission before now held_before held_now ended entries calls session_ticks → Type 0
 NoneFailed (inl unserved) = Unit {0}
-NoneFailed (inr served) =
-    AllByRecursion (λ x. (x.error ≢ EIO) ⊎ FailsByTime x.entries x.calls x.ticks) served.transcript
+NoneFailed {base} (inr served) =
+    AllByRecursion (λ x. (x.error ≢ EIO) ⊎ FailsByTime base x.entries x.calls x.ticks) served.transcript
 
 -- over any links, clocks, sources and sinks, by what they tell and their counts of faults
 module _ {L C R S : Type 0} (log : L → Option (List Call)) (link_faults : L → ℕ) (ticks : C
     → Option (List Tick)) (left : R → Option (List ℕ))
     (read_faults : R → ℕ) (held : S → Option (List ℕ)) (write_faults : S → ℕ) where
   -- a session was served and the disk flushed then: the history of both, the session's course over the bytes, how it
-  -- and
-  -- the flush ended, and what was told of that
+  -- and the flush ended, and what was told of that
   pub record ServesSession (plan : PlanParts) (link link' : L) (clock clock' : C) (input input' : R)
       (output output' errors errors' : S) (told told' : Option (List Entry)) (status : ℕ) : Type 0 where
     pub entries : List Entry
@@ -161,13 +165,13 @@ module _ {L C R S : Type 0} (log : L → Option (List Call)) (link_faults : L �
     pub course :
         (Unopened plan.geometry TRANSMISSION_FLAGS (left input) (left input') (held output) (held output') ended
         × (entries ≡ []) × (calls ≡ []) × (session_ticks ≡ []))
-        ⊎ Served plan.geometry TRANSMISSION_FLAGS (left input) (left input') (held output) (held output') ended
+        ⊎ Served (plan_base plan) TRANSMISSION_FLAGS (left input) (left input') (held output) (held output') ended
         entries calls session_ticks
     pub read_cause : ended ≡ end.ReadFault → Rose (read_faults input) (read_faults input')
     pub write_cause : ended ≡ end.WriteFault → Rose (write_faults output) (write_faults output')
     pub link_counts : Counts (link_faults link) (link_faults link') (flush_calls ++ calls)
     pub flushed : Result Unit CallFault
-    pub flushes : FlushEnds flushed flush_entries flush_calls flush_ticks
+    pub flushes : FlushEnds (plan_base plan) flushed flush_entries flush_calls flush_ticks
     pub flush_asks : AsksOnly [] flush_entries
     pub status_is : status ≡ run_status ended flushed
     pub complains : ComplainsOf (run_line ended flushed)

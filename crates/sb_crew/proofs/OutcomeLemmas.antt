@@ -7,6 +7,7 @@ use Rattle.sb_world.specs.declared.clock.Tick.{Tick}
 use Rattle.sb_world.specs.declared.link.Call.{Call}
 use Rattle.sb_world.specs.declared.link.LinkFault.{LinkFault}
 use Rattle.sb_world.specs.declared.link.LinkFault.TheVariants as link
+use Rattle.sb_crew.specs.Bases.{Base}
 use Rattle.sb_crew.specs.declared.calls.CallFault.{CallFault}
 use Rattle.sb_crew.specs.declared.calls.CallFault.TheVariants.{StoreFault, Memory, StaleRead, ClockStalled}
 use Rattle.sb_crew.specs.Outcomes.{outcomes_of, bytes_read, blocks_asked, outcome_of, bytes_of, asked_of, IsBlockOf}
@@ -53,11 +54,11 @@ fails_still fault xs [] us vs cause = absurd cause
 fails_still fault xs (y ∷ ys) us [] cause = absurd cause
 fails_still fault xs (y ∷ ys) us (v ∷ vs) cause = cause
 
-stale_still : (block : ℕ) (expected shown : List ℕ) (begun : ℕ) (xs ys : List Entry)
-    → IsStale block expected shown begun ys → IsStale block expected shown begun (ys ++ xs)
-stale_still block expected shown begun xs [] cause = absurd cause
-stale_still block expected shown begun xs (y ∷ []) cause = absurd cause
-stale_still block expected shown begun xs (y ∷ z ∷ ys) cause = cause
+stale_still : (base : Base) (block : ℕ) (expected shown : List ℕ) (begun : ℕ) (xs ys : List Entry)
+    → IsStale base block expected shown begun ys → IsStale base block expected shown begun (ys ++ xs)
+stale_still base block expected shown begun xs [] cause = absurd cause
+stale_still base block expected shown begun xs (y ∷ []) cause = absurd cause
+stale_still base block expected shown begun xs (y ∷ z ∷ ys) cause = cause
 
 stalled_still : (before asked after : ℕ) (xs ys : List Entry) (ss ts : List Tick)
     → IsStalled before asked after ys ts → IsStalled before asked after (ys ++ xs) (ts ++ ss)
@@ -65,11 +66,11 @@ stalled_still before asked after xs [] ss ts cause = absurd cause
 stalled_still before asked after xs (y ∷ ys) ss ts cause =
     (cause.0, (cause.1.0 ++ ss, ap (λ (ticks : List Tick). ticks ++ ss) cause.1.1, cause.1.2))
 
-pub cause_stays : (fault : CallFault) (xs ys : List Entry) (us vs : List Call) (ss ts : List Tick)
-    → HasCause fault ys vs ts → HasCause fault (ys ++ xs) (vs ++ us) (ts ++ ss)
-cause_stays (StoreFault status) xs ys us vs ss ts cause = fails_still (link.Failed status) xs ys us vs cause
-cause_stays Memory xs ys us vs ss ts cause = fails_still link.Memory xs ys us vs cause
-cause_stays (StaleRead block expected shown begun) xs ys us vs ss ts cause =
-    stale_still block expected shown begun xs ys cause
-cause_stays (ClockStalled before asked after) xs ys us vs ss ts cause =
+pub cause_stays : (base : Base) (fault : CallFault) (xs ys : List Entry) (us vs : List Call) (ss ts : List Tick)
+    → HasCause base fault ys vs ts → HasCause base fault (ys ++ xs) (vs ++ us) (ts ++ ss)
+cause_stays base (StoreFault status) xs ys us vs ss ts cause = fails_still (link.Failed status) xs ys us vs cause
+cause_stays base Memory xs ys us vs ss ts cause = fails_still link.Memory xs ys us vs cause
+cause_stays base (StaleRead block expected shown begun) xs ys us vs ss ts cause =
+    stale_still base block expected shown begun xs ys cause
+cause_stays base (ClockStalled before asked after) xs ys us vs ss ts cause =
     stalled_still before asked after xs ys ss ts cause

@@ -7,6 +7,7 @@ use Rattle.sb_world.specs.declared.clock.Tick.{Tick}
 use Rattle.sb_world.specs.declared.clock.Tick.TheVariants as tick
 use Rattle.sb_world.specs.declared.link.Call.{Call}
 use Rattle.sb_history.specs.ClockTrace.{PauseTicks}
+use Rattle.sb_crew.specs.Bases.{Base}
 use Rattle.sb_crew.specs.declared.calls.CallFault.{CallFault}
 use Rattle.sb_crew.specs.Outcomes.{PausesFor, HasCause, IsOfNoRead}
 use Rattle.sb_crew.specs.Runs.{next_ticks}
@@ -17,8 +18,9 @@ pub record IsPaused (clock clock' : Option (List Tick)) (now millis : ℕ) (resu
   pub after : List Tick
   pub paused : PauseTicks true now (next_of result) (Some millis) after
   pub readings : Gains clock clock' (next_ticks (next_of result) ++ after)
-  pub cause : (entry : Entry) (entries : List Entry) (calls : List Call) (ticks : List Tick)
-      → PausesFor now millis entry.kind → HasCauseIf (entry ∷ entries) calls (after ++ tick.Taken now ∷ ticks) result
+  pub cause : (base : Base) (entry : Entry) (entries : List Entry) (calls : List Call) (ticks : List Tick)
+      → PausesFor now millis entry.kind
+      → HasCauseIf base (entry ∷ entries) calls (after ++ tick.Taken now ∷ ticks) result
 
 pub is_paused : (clock clock' : Option (List Tick)) (now millis : ℕ) (result : Result ℕ CallFault) (ticks : List Tick)
     → Gains clock clock' ticks → PauseEnds now millis ticks result → IsPaused clock clock' now millis result
@@ -26,15 +28,15 @@ is_paused clock clock' now millis (Ok next) ticks gained ends = record {
   after = tick.Paused millis ∷ [];
   paused = inl (refl, ends.1);
   readings = subst (Gains clock clock') ends.0 gained;
-  cause = λ entry entries calls ticks pauses. tt;
+  cause = λ base entry entries calls ticks pauses. tt;
 }
 is_paused clock clock' now millis (Err fault) ticks gained ends = record {
   after = tick.Taken ends.0 ∷ tick.Paused millis ∷ [];
   paused = inr (ends.0, ends.2, refl);
   readings = subst (Gains clock clock') ends.3 gained;
-  cause = λ entry entries calls earlier pauses.
+  cause = λ base entry entries calls earlier pauses.
       let behind = tick.Taken ends.0 ∷ tick.Paused millis ∷ tick.Taken now ∷ earlier in
-      subst (λ (f : CallFault). HasCause f (entry ∷ entries) calls behind) (sym ends.1)
+      subst (λ (f : CallFault). HasCause base f (entry ∷ entries) calls behind) (sym ends.1)
       (pauses, (earlier, refl, ends.2));
 }
 

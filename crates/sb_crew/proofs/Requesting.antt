@@ -36,7 +36,8 @@ use Rattle.sb_crew.specs.declared.calls.CallFault.TheVariants.{StoreFault, Memor
 use Rattle.sb_crew.specs.Names.{Naming, name_of}
 use Rattle.sb_crew.specs.Answers.{shown_for, fault_for, is_late}
 use Rattle.sb_crew.specs.Outcomes as outcome
-use Rattle.sb_crew.specs.Outcomes.{IsExpected, HasCause, IsOfNoRead}
+use Rattle.sb_crew.specs.Bases.{Base, base_of}
+use Rattle.sb_crew.specs.Outcomes.{IsLongExpected, HasCause, IsOfNoRead}
 use Rattle.sb_crew.specs.Joins.{gains_nothing}
 use Rattle.sb_crew.specs.Runs.{next_ticks, Event}
 use Rattle.sb_crew.specs.Turns.{next_of, HasCauseIf, get_begun, get_ended, FetchDoes, Pauses, put_sent, put_ended}
@@ -76,6 +77,11 @@ taken_agrees limit begun (Some expect) (Some digest) taken differs = by (bytes_e
       let same : digest ≡ expect.digest = grind (arith, common_steps, decides, is) in
       differs.0 same
   by false is taken = absurd (cc)
+
+-- a GET has to show this digest
+abbrev IsExpected : List ℕ → Option Expect → Type 0
+IsExpected digest None = ⊥
+IsExpected digest (Some expect) = expect.digest ≡ digest
 
 -- an answer that is stale has the other digest
 pub record ShowsOther (expect : Option Expect) (digest : Option (List ℕ)) (expected shown : List ℕ) : Type 0 where
@@ -130,6 +136,12 @@ differs_in_time limit begun (Some expect) (Some digest) expected shown late stal
       omega (arith, leb-false (expect.since + limit) begun late),
     )
 
+-- a late GET has to show a digest whose put ended long before
+long_expected : (limit begun : ℕ) (expect : Option Expect) (expected : List ℕ) → IsExpected expected expect
+    → is_late limit begun expect ≡ true → IsLongExpected limit begun expected expect
+long_expected limit begun None expected is late = is
+long_expected limit begun (Some expect) expected is late = (is, leb-true (expect.since + limit) begun late)
+
 -- an answer with a digest isn't judged as a failure
 judged_some : (expect : Option Expect) (digest : List ℕ) → judged expect (Some digest) ≡ done.Failed → ⊥
 judged_some None digest failed = absurd (cc)
@@ -154,13 +166,13 @@ failure_agrees limit begun block_size None verify differs = differs
 failure_agrees limit begun block_size (Some expect) verify differs = differs
 
 -- a fault of the link is the cause of a call that failed by it
-pub fails_by : (fault : LinkFault) (ended : CallFault) (entry : Entry) (entries : List Entry) (asked : Call)
-    (calls : List Call) (ticks : List Tick) → ended ≡ fault_for fault → outcome.IsFailure entry.kind
-    → outcome.fault_of asked ≡ Some fault → HasCause ended (entry ∷ entries) (asked ∷ calls) ticks
-fails_by (link.Failed status) ended entry entries asked calls ticks is failure cause =
-    subst (λ (f : CallFault). HasCause f (entry ∷ entries) (asked ∷ calls) ticks) (sym is) (failure, cause)
-fails_by link.Memory ended entry entries asked calls ticks is failure cause =
-    subst (λ (f : CallFault). HasCause f (entry ∷ entries) (asked ∷ calls) ticks) (sym is) (failure, cause)
+pub fails_by : (base : Base) (fault : LinkFault) (ended : CallFault) (entry : Entry) (entries : List Entry)
+    (asked : Call) (calls : List Call) (ticks : List Tick) → ended ≡ fault_for fault → outcome.IsFailure entry.kind
+    → outcome.fault_of asked ≡ Some fault → HasCause base ended (entry ∷ entries) (asked ∷ calls) ticks
+fails_by base (link.Failed status) ended entry entries asked calls ticks is failure cause =
+    subst (λ (f : CallFault). HasCause base f (entry ∷ entries) (asked ∷ calls) ticks) (sym is) (failure, cause)
+fails_by base link.Memory ended entry entries asked calls ticks is failure cause =
+    subst (λ (f : CallFault). HasCause base f (entry ∷ entries) (asked ∷ calls) ticks) (sym is) (failure, cause)
 
 -- what a GET did, by the end that the core gave its answer
 module _ {names names' : Naming} {core core' : Core} {tape tape' : Option (List Entry)}
@@ -175,7 +187,7 @@ module _ {names names' : Naming} {core core' : Core} {tape tape' : Option (List 
       (answer_digest (geometry_of core).block_size job.verify (shown_for answered bytes))) 100 pause
       → PauseTicks true later (next_of result) pause after
       → Gains between clock' (next_ticks (next_of result) ++ after)
-      → HasCauseIf (get_ended job reading answered bytes (is_taken outcome) ∷ get_begun job ∷ [])
+      → HasCauseIf (base_of core) (get_ended job reading answered bytes (is_taken outcome) ∷ get_begun job ∷ [])
       (call.Get (name_of names job.block) job.verify (get_reply answered bytes) ∷ [])
       (after ++ tick.Taken later ∷ []) result
       → FetchDoes names names' core core' tape tape' clock clock' log log' faults faults' job result
@@ -246,9 +258,9 @@ module _ {names names' : Naming} {core core' : Core} {tape tape' : Option (List 
       paused = refl;
       readings = gains_nothing clock';
     };
-    cause = fails_by cause fault (get_ended job reading (Err cause) bytes (is_taken outcome)) (get_begun job ∷ [])
-        (call.Get (name_of names job.block) job.verify (get_reply (Err cause) bytes)) [] (tick.Taken later ∷ []) is tt
-        refl;
+    cause = fails_by (base_of core) cause fault (get_ended job reading (Err cause) bytes (is_taken outcome))
+        (get_begun job ∷ []) (call.Get (name_of names job.block) job.verify (get_reply (Err cause) bytes)) []
+        (tick.Taken later ∷ []) is tt refl;
   }
 
   -- its answer was stale, and late
@@ -287,8 +299,8 @@ module _ {names names' : Naming} {core core' : Core} {tape tape' : Option (List 
           readings = gains_nothing clock';
         };
         cause = (
-          (refl, ap is_taken is, ((geometry_of core).block_size, other.digest_is)),
-          (refl, other.expected_is),
+          (refl, ap is_taken is, other.digest_is),
+          (refl, long_expected (settings_of core).stale_limit job.begun job.expect expected other.expected_is late),
           refl,
           other.other,
         );
@@ -318,7 +330,7 @@ module _ {names names' : Naming} {core core' : Core} {tape tape' : Option (List 
       (Some 100) paused.after opened called counted took event
       (differs_in_time (settings_of core).stale_limit job.begun job.expect _ expected shown late other, refl)
       paused.paused paused.readings
-      (paused.cause (get_ended job reading answered bytes (is_taken outcome)) (get_begun job ∷ [])
+      (paused.cause (base_of core) (get_ended job reading answered bytes (is_taken outcome)) (get_begun job ∷ [])
       (call.Get (name_of names job.block) job.verify (get_reply answered bytes) ∷ []) [] (ap is_taken is, refl))
 
 -- a put that failed says its fault, as a delete or as a put
@@ -333,12 +345,12 @@ request_reads_nothing (link.Failed status) ended is = subst IsOfNoRead (sym is) 
 request_reads_nothing link.Memory ended is = subst IsOfNoRead (sym is) tt
 
 -- neither does a PUT
-pub put_reads_nothing : (fault : CallFault) (entry : Entry) (calls : List Call) (ticks : List Tick)
-    → HasCause fault (entry ∷ []) calls ticks → IsOfNoRead fault
-put_reads_nothing (StoreFault status) entry calls ticks cause = tt
-put_reads_nothing Memory entry calls ticks cause = tt
-put_reads_nothing (StaleRead block expected shown begun) entry calls ticks cause = cause
-put_reads_nothing (ClockStalled before asked after) entry calls ticks cause = tt
+pub put_reads_nothing : (base : Base) (fault : CallFault) (entry : Entry) (calls : List Call) (ticks : List Tick)
+    → HasCause base fault (entry ∷ []) calls ticks → IsOfNoRead fault
+put_reads_nothing base (StoreFault status) entry calls ticks cause = tt
+put_reads_nothing base Memory entry calls ticks cause = tt
+put_reads_nothing base (StaleRead block expected shown begun) entry calls ticks cause = cause
+put_reads_nothing base (ClockStalled before asked after) entry calls ticks cause = tt
 
 -- what a PUT did
 module _ {names names' : Naming} {core core' : Core} {tape tape' : Option (List Entry)}
@@ -390,7 +402,7 @@ module _ {names names' : Naming} {core core' : Core} {tape tape' : Option (List 
       paused = refl;
       readings = gains_nothing clock';
     };
-    cause = fails_by cause fault (put_ended block reading (Err cause)) [] (put_sent names block content (Err cause)) []
-        (tick.Taken later ∷ []) is refl
+    cause = fails_by (base_of core) cause fault (put_ended block reading (Err cause)) []
+        (put_sent names block content (Err cause)) [] (tick.Taken later ∷ []) is refl
         (put_fault (is_zeros content) (name_of names block) (meta_of (Some names.meta) block) content (Some cause));
   }

@@ -8,6 +8,8 @@ use Rattle.std.proofs.Math.Nat.{min-eq_left, min-eq_right, lt_of_not-le}
 use Rattle.std.specs.List.{AllByRecursion}
 use Rattle.std.proofs.lemmas.Bool.{eq-eqb}
 use Rattle.sb_base.specs.declared.part.Part.{Part}
+use Rattle.sb_base.specs.declared.geometry.Geometry.{Geometry}
+use Rattle.sb_base.specs.declared.settings.Settings.{Settings}
 use Rattle.sb_base.specs.declared.line.Why.{Why}
 use Rattle.sb_base.specs.declared.entry.Entry.{Entry}
 use Rattle.sb_base.specs.declared.entry.EntryKind.{EntryKind}
@@ -29,6 +31,8 @@ use Rattle.sb_history.specs.Requests.{Replies, RequestLog, IsPutCall, meta_of, p
 use Rattle.sb_core.specs.declared.machine.Core.{Core}
 use Rattle.sb_core.specs.declared.job.GetJob.{GetJob}
 use Rattle.sb_core.specs.Represents.{geometry_of, settings_of}
+use Rattle.sb_core.specs.Progress.{SameBase}
+use Rattle.sb_crew.specs.Bases.{Base, base_of}
 use Rattle.sb_crew.specs.declared.calls.CallFault.{CallFault}
 use Rattle.sb_crew.specs.Counts.{is_failure, Counts, Asked}
 use Rattle.sb_crew.specs.Names.{Naming, name_of}
@@ -55,6 +59,12 @@ any_lasts entries past is = tt
 still_some : (t : Bool) (place : ℕ) (before : Option ℕ) → IsSome before → IsSome (if t then Some place else before)
 still_some true place before some = refl
 still_some false place before some = some
+
+-- an event leaves the base
+pub same_base_of : {old new : Core} → SameBase old new → base_of new ≡ base_of old
+same_base_of {old} {new} same =
+    ap (λ (geometry : Geometry). record { geometry = geometry; settings = settings_of new }) same.geometry
+    ∙ ap (λ (settings : Settings). record { geometry = geometry_of old; settings = settings }) same.settings
 
 -- a flush that has begun
 begun_after : (mark place : ℕ) (of : EntryKind) (before : Option ℕ) → IsSome before
@@ -283,7 +293,7 @@ module _ {Then : List Entry → Type 0} {met : List Outcome} {names names1 : Nam
       → EventWhere Then names1 names2 b c tape1 tape2 now entry
       → Waits clock1 clock2 latest latest' now why (Err fault)
       → Does (Did names names2 a c tape tape2 log log1 faults faults1 clock clock2) parts
-      (λ entries calls ticks. (outcomes_of entries ≡ met) × HasCause fault entries calls ticks)
+      (λ entries calls ticks. (outcomes_of entries ≡ met) × HasCause (base_of a) fault entries calls ticks)
   wait_fails before reading why fault is did waits = record {
     entries = event reading (kind.Waited why) ∷ before.entries;
     calls = before.calls;
@@ -291,11 +301,27 @@ module _ {Then : List Entry → Type 0} {met : List Outcome} {names names1 : Nam
     done = one_turn before (wait_turn reading why is did waits) refl;
     ends = (
       before.met_so,
-      (pause_is waits.paused).cause (event reading (kind.Waited why)) before.entries before.calls before.ticks
-          waits.pause_is,
+      (pause_is waits.paused).cause (base_of a) (event reading (kind.Waited why)) before.entries before.calls
+          before.ticks waits.pause_is,
     );
     asks = record { asked = before.asks.asked };
   }
+
+  -- the cause of the request that failed a call is that of the call, for the base that it began with
+  fails_so : {c : Core}
+      (before : SoFar Then met names names1 a b tape tape1 log log1 faults faults1 clock clock1 parts now)
+      → SameBase b c → (fault : CallFault) (rest entries : List Entry) (asked : Call) (later : ℕ) (after : List Tick)
+      → HasCause (base_of c) fault entries (asked ∷ []) (after ++ tick.Taken later ∷ [])
+      → HasCause (base_of a) fault (entries ++ rest) (asked ∷ before.calls)
+      (after ++ tick.Taken later ∷ tick.Taken now ∷ before.ticks)
+  fails_so {c} before base fault rest entries asked later after cause =
+      let all = after ++ tick.Taken later ∷ tick.Taken now ∷ before.ticks in
+      subst (λ (base : Base). HasCause base fault (entries ++ rest) (asked ∷ before.calls) all)
+      (same_base_of base ∙ same_base_of before.done.runs.base)
+      (subst (HasCause (base_of c) fault (entries ++ rest) (asked ∷ before.calls))
+      (append_assoc after (tick.Taken later ∷ []) (tick.Taken now ∷ before.ticks))
+      (cause_stays (base_of c) fault rest entries before.calls (asked ∷ []) (tick.Taken now ∷ before.ticks)
+      (after ++ tick.Taken later ∷ []) cause))
 
   -- the entries, the call and the ticks of a GET
   get_does : {names2 names3 : Naming} {c d : Core} {tape2 tape3 : Option (List Entry)}
@@ -347,7 +373,7 @@ module _ {Then : List Entry → Type 0} {met : List Outcome} {names names1 : Nam
       → EventWhere Then names1 names2 b c tape1 tape2 now entry
       → FetchDoes names2 names3 c d tape2 tape3 clock1 clock3 log1 log3 faults1 faults3 job (Err fault)
       → Does (Did names names3 a d tape tape3 log log3 faults faults3 clock clock3) parts
-      (λ entries calls ticks. (outcomes_of entries ≡ met) × HasCause fault entries calls ticks)
+      (λ entries calls ticks. (outcomes_of entries ≡ met) × HasCause (base_of a) fault entries calls ticks)
   get_fails {names2} before job fault is same did fetched =
       let more = get_ended job fetched.reading fetched.got fetched.bytes fetched.taken ∷ get_begun job ∷ [] in
       let asked = call.Get (name_of names2 job.block) job.verify (get_reply fetched.got fetched.bytes) in
@@ -358,10 +384,7 @@ module _ {Then : List Entry → Type 0} {met : List Outcome} {names names1 : Nam
         done = get_does job before is did fetched;
         ends = (
           before.met_so,
-          subst (HasCause fault (more ++ before.entries) (asked ∷ before.calls))
-              (append_assoc fetched.after (tick.Taken fetched.later ∷ []) (tick.Taken now ∷ before.ticks))
-              (cause_stays fault before.entries more before.calls (asked ∷ []) (tick.Taken now ∷ before.ticks)
-              (fetched.after ++ tick.Taken fetched.later ∷ []) fetched.cause),
+          fails_so before did.base fault before.entries more asked fetched.later fetched.after fetched.cause,
         );
         asks = record { asked = (same, before.asks.asked) };
       }
@@ -418,7 +441,7 @@ module _ {Then : List Entry → Type 0} {met : List Outcome} {names names1 : Nam
       → EventWhere Then names1 names2 b c tape1 tape2 now entry
       → StoreDoes names2 names3 c d tape2 tape3 clock1 clock3 log1 log3 faults1 faults3 block content (Err fault)
       → Does (Did names names3 a d tape tape3 log log3 faults faults3 clock clock3) parts
-      (λ entries calls ticks. (outcomes_of entries ≡ met) × HasCause fault entries calls ticks)
+      (λ entries calls ticks. (outcomes_of entries ≡ met) × HasCause (base_of a) fault entries calls ticks)
   put_fails {names2} before reading block content fault is did stored =
       let ended = put_ended block stored.reading stored.sent in
       let begun = event reading (kind.PutBegin block content) in
@@ -430,10 +453,8 @@ module _ {Then : List Entry → Type 0} {met : List Outcome} {names names1 : Nam
         done = put_does reading block content before is did stored;
         ends = (
           before.met_so,
-          subst (HasCause fault (ended ∷ begun ∷ before.entries) (asked ∷ before.calls))
-              (append_assoc stored.after (tick.Taken stored.later ∷ []) (tick.Taken now ∷ before.ticks))
-              (cause_stays fault (begun ∷ before.entries) (ended ∷ []) before.calls (asked ∷ [])
-              (tick.Taken now ∷ before.ticks) (stored.after ++ tick.Taken stored.later ∷ []) stored.cause),
+          fails_so before did.base fault (begun ∷ before.entries) (ended ∷ []) asked stored.later stored.after
+              stored.cause,
         );
         asks = record { asked = before.asks.asked };
       }

@@ -1,3 +1,4 @@
+pub mod Bases
 pub mod Outcomes
 pub mod Counts
 pub mod Names

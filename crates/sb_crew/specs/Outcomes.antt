@@ -1,6 +1,6 @@
 -- What the entries of a call of the disk came to. Entries, calls of the link and ticks are newest first.
-use Rattle.std.specs.Prelude.{ℕ, ◌≡◌, ◌≢◌, ◌+◌, ◌<◌, ◌⊎◌, length, List, [], ◌∷◌, ◌++◌, Option, Some, None, Result, Ok}
-use Rattle.std.specs.Prelude.{Err, false}
+use Rattle.std.specs.Prelude.{ℕ, ◌≡◌, ◌≢◌, ◌+◌, ◌<◌, ◌≤◌, ◌⊎◌, length, List, [], ◌∷◌, ◌++◌, Option, Some, None}
+use Rattle.std.specs.Prelude.{Result, Ok, Err, false}
 use Rattle.std.specs.List.{AllByRecursion}
 use Rattle.sb_base.specs.declared.part.Part.{Part}
 use Rattle.sb_base.specs.declared.entry.Entry.{Entry}
@@ -18,6 +18,7 @@ use Rattle.sb_world.specs.declared.link.LinkFault.{LinkFault}
 use Rattle.sb_world.specs.declared.link.LinkFault.TheVariants as link
 use Rattle.sb_history.specs.ClockTrace.{wait_pause}
 use Rattle.sb_history.specs.Window.{answer_digest}
+use Rattle.sb_crew.specs.Bases.{Base}
 use Rattle.sb_crew.specs.declared.calls.CallFault.{CallFault}
 use Rattle.sb_crew.specs.declared.calls.CallFault.TheVariants.{StoreFault, Memory, StaleRead, ClockStalled}
 
@@ -88,36 +89,34 @@ abbrev pub FailsBy : LinkFault → List Entry → List Call → Type 0
 FailsBy fault (entry ∷ entries) (call ∷ calls) = IsFailure entry.kind × (fault_of call ≡ Some fault)
 FailsBy fault entries calls = ⊥
 
--- an answer has this digest, an absent object that of a block of zeros
-abbrev pub HasDigest : Option (List ℕ) → Shown → List ℕ → Type 0
-HasDigest verify answer digest = (block_size : ℕ) × (answer_digest block_size verify answer ≡ Some digest)
-
 -- the end of a GET of this block that wasn't taken, whose answer has this digest
-abbrev pub IsUntaken : ℕ → List ℕ → EntryKind → Type 0
-IsUntaken block digest (kind.GetEnd of answer verify taken) =
-    (of ≡ block) × (taken ≡ false) × HasDigest verify answer digest
-IsUntaken block digest other = ⊥
+abbrev pub IsUntaken : ℕ → ℕ → List ℕ → EntryKind → Type 0
+IsUntaken block_size block digest (kind.GetEnd of answer verify taken) =
+    (of ≡ block) × (taken ≡ false) × (answer_digest block_size verify answer ≡ Some digest)
+IsUntaken block_size block digest other = ⊥
 
--- a GET has to show this digest
-abbrev pub IsExpected : List ℕ → Option Expect → Type 0
-IsExpected digest None = ⊥
-IsExpected digest (Some expect) = expect.digest ≡ digest
+-- a GET that begins at this reading has to show this digest, whose put ended by the limit before it at least
+abbrev pub IsLongExpected : ℕ → ℕ → List ℕ → Option Expect → Type 0
+IsLongExpected limit begun digest None = ⊥
+IsLongExpected limit begun digest (Some expect) = (expect.digest ≡ digest) × (expect.since + limit ≤ begun)
 
--- the begin of a GET of this block that has to show this digest
-abbrev pub AsksFor : ℕ → List ℕ → EntryKind → Type 0
-AsksFor block digest (kind.GetBegin of expect verify) = (of ≡ block) × IsExpected digest expect
-AsksFor block digest other = ⊥
+-- the begin of such a GET of this block
+abbrev pub AsksLate : ℕ → ℕ → List ℕ → ℕ → EntryKind → Type 0
+AsksLate limit block digest begun (kind.GetBegin of expect verify) =
+    (of ≡ block) × IsLongExpected limit begun digest expect
+AsksLate limit block digest begun other = ⊥
 
--- the newest entry is the end of a GET of this block that wasn't taken: it began at this reading, had to show the first
--- digest and showed the other one
-abbrev pub IsStale : ℕ → List ℕ → List ℕ → ℕ → List Entry → Type 0
-IsStale block expected shown begun (ended ∷ began ∷ entries) =
-    IsUntaken block shown ended.kind × AsksFor block expected began.kind × (began.reading ≡ begun) × (shown ≢ expected)
-IsStale block expected shown begun entries = ⊥
+-- the newest entry is the end of a GET of this block that wasn't taken: it began at this reading, the stale limit or
+-- more after the put that it had to show ended, whose digest is the first one, and showed the other one
+abbrev pub IsStale : Base → ℕ → List ℕ → List ℕ → ℕ → List Entry → Type 0
+IsStale base block expected shown begun (ended ∷ began ∷ entries) =
+    IsUntaken base.geometry.block_size block shown ended.kind
+    × AsksLate base.settings.stale_limit block expected begun began.kind
+    × (began.reading ≡ begun) × (shown ≢ expected)
+IsStale base block expected shown begun entries = ⊥
 
--- an entry after which a reading was taken for it is followed by a pause of so long: a wait for a reading, or the end
--- of
--- a GET that wasn't taken
+-- an entry for which this reading was taken is followed by a pause of so long: it is a wait for a reading, or the end
+-- of a GET that wasn't taken
 abbrev pub PausesFor : ℕ → ℕ → EntryKind → Type 0
 PausesFor taken millis (kind.Waited reason) = wait_pause reason taken ≡ Some millis
 PausesFor taken millis (kind.GetEnd block answer verify took) = (took ≡ false) × (millis ≡ 100)
@@ -135,20 +134,21 @@ IsStalled before asked after [] ticks = ⊥
 IsStalled before asked after (entry ∷ entries) ticks =
     PausesFor before asked entry.kind × FallsBehind before asked after ticks
 
--- why a call of the disk failed, by its entries, its calls of the link and its ticks
-abbrev pub HasCause : CallFault → List Entry → List Call → List Tick → Type 0
-HasCause (StoreFault status) entries calls ticks = FailsBy (link.Failed status) entries calls
-HasCause Memory entries calls ticks = FailsBy link.Memory entries calls
-HasCause (StaleRead block expected shown begun) entries calls ticks = IsStale block expected shown begun entries
-HasCause (ClockStalled before asked after) entries calls ticks = IsStalled before asked after entries ticks
+-- why a call of a disk with this base failed, by its entries, its calls of the link and its ticks
+abbrev pub HasCause : Base → CallFault → List Entry → List Call → List Tick → Type 0
+HasCause base (StoreFault status) entries calls ticks = FailsBy (link.Failed status) entries calls
+HasCause base Memory entries calls ticks = FailsBy link.Memory entries calls
+HasCause base (StaleRead block expected shown begun) entries calls ticks =
+    IsStale base block expected shown begun entries
+HasCause base (ClockStalled before asked after) entries calls ticks = IsStalled before asked after entries ticks
 
 -- a proper front of a goal was met, and then a call of the disk failed so
-pub record Stops (goal : List Outcome) (entries : List Entry) (calls : List Call) (ticks : List Tick)
+pub record Stops (base : Base) (goal : List Outcome) (entries : List Entry) (calls : List Call) (ticks : List Tick)
     (fault : CallFault) : Type 0 where
   pub missing : List Outcome
   pub some : 0 < length missing
   pub met : missing ++ outcomes_of entries ≡ goal
-  pub cause : HasCause fault entries calls ticks
+  pub cause : HasCause base fault entries calls ticks
 
 -- what was done between two states of a disk and its desk: it ended so, and asked for no other blocks than those of
 -- these parts
@@ -162,25 +162,27 @@ pub record Does (did : List Entry → List Call → List Tick → Type 0) (parts
   pub asks : AsksOnly parts entries
 
 -- a call read a part and gave these bytes, or it read nothing and has a cause
-abbrev pub ReadEnds : Part → List ℕ → Result Unit CallFault → List Entry → List Call → List Tick
+abbrev pub ReadEnds : Base → Part → List ℕ → Result Unit CallFault → List Entry → List Call → List Tick
     → Type 0
-ReadEnds part bytes (Ok done) entries calls ticks =
+ReadEnds base part bytes (Ok done) entries calls ticks =
     (outcomes_of entries ≡ ReadDone part ∷ []) × (bytes_read entries ≡ bytes)
-ReadEnds part bytes (Err fault) entries calls ticks = (outcomes_of entries ≡ []) × HasCause fault entries calls ticks
+ReadEnds base part bytes (Err fault) entries calls ticks =
+    (outcomes_of entries ≡ []) × HasCause base fault entries calls ticks
 
-abbrev pub ReadDoes : (List Entry → List Call → List Tick → Type 0) → Part → List ℕ → Result Unit CallFault
+abbrev pub ReadDoes : Base → (List Entry → List Call → List Tick → Type 0) → Part → List ℕ → Result Unit CallFault
     → Type 0
-ReadDoes did part bytes result = Does did (part ∷ []) (ReadEnds part bytes result)
+ReadDoes base did part bytes result = Does did (part ∷ []) (ReadEnds base part bytes result)
 
 -- a call wrote these bytes to a part, or it wrote nothing and has a cause
-abbrev pub WriteEnds : Part → List ℕ → Result Unit CallFault → List Entry → List Call → List Tick
+abbrev pub WriteEnds : Base → Part → List ℕ → Result Unit CallFault → List Entry → List Call → List Tick
     → Type 0
-WriteEnds part bytes (Ok done) entries calls ticks = outcomes_of entries ≡ WriteDone part bytes ∷ []
-WriteEnds part bytes (Err fault) entries calls ticks = (outcomes_of entries ≡ []) × HasCause fault entries calls ticks
+WriteEnds base part bytes (Ok done) entries calls ticks = outcomes_of entries ≡ WriteDone part bytes ∷ []
+WriteEnds base part bytes (Err fault) entries calls ticks =
+    (outcomes_of entries ≡ []) × HasCause base fault entries calls ticks
 
-abbrev pub WriteDoes : (List Entry → List Call → List Tick → Type 0) → Part → List ℕ → Result Unit CallFault
+abbrev pub WriteDoes : Base → (List Entry → List Call → List Tick → Type 0) → Part → List ℕ → Result Unit CallFault
     → Type 0
-WriteDoes did part bytes result = Does did (part ∷ []) (WriteEnds part bytes result)
+WriteDoes base did part bytes result = Does did (part ∷ []) (WriteEnds base part bytes result)
 
 -- what a flush with this mark wants done
 abbrev pub flush_of : ℕ → List Outcome
@@ -192,10 +194,10 @@ IsOfNoRead (StaleRead block expected shown begun) = ⊥
 IsOfNoRead other = Unit {0}
 
 -- a flush began and ended with one mark, or it did not and has a cause
-abbrev pub FlushEnds : Result Unit CallFault → List Entry → List Call → List Tick → Type 0
-FlushEnds (Ok done) entries calls ticks = (mark : ℕ) × (outcomes_of entries ≡ flush_of mark)
-FlushEnds (Err fault) entries calls ticks =
-    (mark : ℕ) × Stops (flush_of mark) entries calls ticks fault × IsOfNoRead fault
+abbrev pub FlushEnds : Base → Result Unit CallFault → List Entry → List Call → List Tick → Type 0
+FlushEnds base (Ok done) entries calls ticks = (mark : ℕ) × (outcomes_of entries ≡ flush_of mark)
+FlushEnds base (Err fault) entries calls ticks =
+    (mark : ℕ) × Stops base (flush_of mark) entries calls ticks fault × IsOfNoRead fault
 
-abbrev pub FlushDoes : (List Entry → List Call → List Tick → Type 0) → Result Unit CallFault → Type 0
-FlushDoes did result = Does did [] (FlushEnds result)
+abbrev pub FlushDoes : Base → (List Entry → List Call → List Tick → Type 0) → Result Unit CallFault → Type 0
+FlushDoes base did result = Does did [] (FlushEnds base result)

@@ -18,6 +18,7 @@ use Rattle.sb_history.specs.Requests.{meta_of, put_call}
 use Rattle.sb_core.specs.declared.machine.Core.{Core}
 use Rattle.sb_core.specs.declared.job.GetJob.{GetJob}
 use Rattle.sb_core.specs.Progress.{IsCloser, HoldsNothing}
+use Rattle.sb_crew.specs.Bases.{Base, base_of}
 use Rattle.sb_crew.specs.Names.{Naming, name_of}
 use Rattle.sb_crew.specs.Answers.{shown_for}
 use Rattle.sb_crew.specs.declared.calls.CallFault.{CallFault}
@@ -45,10 +46,10 @@ abbrev pub next_of : Result ℕ CallFault → Option ℕ
 next_of (Ok now) = Some now
 next_of (Err fault) = None
 
--- where a call doesn't go on, these entries, calls of the link and ticks are the cause
-abbrev pub HasCauseIf : List Entry → List Call → List Tick → Result ℕ CallFault → Type 0
-HasCauseIf entries calls ticks (Ok now) = Unit {0}
-HasCauseIf entries calls ticks (Err fault) = HasCause fault entries calls ticks
+-- where a call of a disk with this base doesn't go on, these entries, calls of the link and ticks are the cause
+abbrev pub HasCauseIf : Base → List Entry → List Call → List Tick → Result ℕ CallFault → Type 0
+HasCauseIf base entries calls ticks (Ok now) = Unit {0}
+HasCauseIf base entries calls ticks (Err fault) = HasCause base fault entries calls ticks
 
 -- a reading is the clock's last one, and within its limit
 pub record IsLatest (latest now : ℕ) : Type 0 where
@@ -109,7 +110,7 @@ pub record FetchDoes (names names' : Naming) (core core' : Core) (tape tape' : O
   pub after : List Tick
   pub turn : TurnWhere any_past names names' core core' tape tape' between clock' later
       (get_ended job reading got bytes taken) (next_of result) after
-  pub cause : HasCauseIf (get_ended job reading got bytes taken ∷ get_begun job ∷ [])
+  pub cause : HasCauseIf (base_of core) (get_ended job reading got bytes taken ∷ get_begun job ∷ [])
       (call.Get (name_of names job.block) job.verify (get_reply got bytes) ∷ []) (after ++ tick.Taken later ∷ []) result
 
 -- the call of a PUT, and the entry of its end
@@ -134,5 +135,5 @@ pub record StoreDoes (names names' : Naming) (core core' : Core) (tape tape' : O
   pub after : List Tick
   pub turn : TurnWhere any_past names names' core core' tape tape' between clock' later
       (put_ended block reading sent) (next_of result) after
-  pub cause : HasCauseIf (put_ended block reading sent ∷ []) (put_sent names block content sent ∷ [])
+  pub cause : HasCauseIf (base_of core) (put_ended block reading sent ∷ []) (put_sent names block content sent ∷ [])
       (after ++ tick.Taken later ∷ []) result

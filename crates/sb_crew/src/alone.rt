@@ -81,12 +81,12 @@ impl<T: Tape> Alone<T> {
 }
 
 impl<T: Tape, L: Link, C: Clock> Calls<Desk<L, C>> for Alone<T> {
-    ghost use Rattle.sb_core.specs.Represents.{geometry_of};
+    ghost use Rattle.sb_crew.specs.Bases.{base_of};
     ghost use Rattle.sb_crew.specs.Ready.{IsReady};
     ghost use Rattle.sb_crew.specs.Runs.{Did};
     ghost use Rattle.sb_crew.specs.Joins.{did_join, did_nothing};
 
-    ghost geometry = { λ disk. geometry_of disk.core };
+    ghost base = { λ disk. base_of disk.core };
 
     ghost ready = { λ disk desk. IsReady disk.core disk.reading (vec_len desk.room) };
 

@@ -2,10 +2,10 @@
 
 ghost use Rattle.std.specs.Prelude.{◌≡◌, List, [], ◌++◌, length};
 ghost use Rattle.sb_base.specs.declared.entry.Entry.{Entry};
-ghost use Rattle.sb_base.specs.declared.geometry.Geometry.{Geometry};
 ghost use Rattle.sb_base.specs.Ranges.{IsPart};
 ghost use Rattle.sb_world.specs.declared.clock.Tick.{Tick};
 ghost use Rattle.sb_world.specs.declared.link.Call.{Call};
+ghost use Rattle.sb_crew.specs.Bases.{Base};
 ghost use Rattle.sb_crew.specs.Outcomes.{ReadDoes, WriteDoes, FlushDoes};
 
 use sb_base::{Digest, Geometry, Part};
@@ -37,8 +37,8 @@ pub enum CallFault {
 
 /// The calls of a disk that are made with a desk, which has what one thread works with.
 pub trait Calls<K> {
-    /// Its size.
-    ghost geometry: { Self → Geometry };
+    /// Its size and settings, which no call changes.
+    ghost base: { Self → Base };
 
     /// A call may be made.
     ghost ready: { Self → K → Type 0 };
@@ -57,31 +57,31 @@ pub trait Calls<K> {
 
     /// Its size.
     fn geometry(&self) -> Geometry
-        ensures { result ≡ geometry self.now };
+        ensures { result ≡ (base self.now).geometry };
 
     /// Reads a part into a buffer. After a fault the buffer is unspecified.
     fn read(&mut self, desk: &mut K, part: Part, out: &mut [u8]) -> Result<(), CallFault>
         requires ready { ready self.old desk.old }
-        requires part { IsPart (geometry self.old) part }
+        requires part { IsPart (base self.old).geometry part }
         requires out { length out.old ≡ part.length }
         ensures ready { ready self.new desk.new }
-        ensures did { ReadDoes (did self.old desk.old self.new desk.new) part out.new result }
-        ensures geometry { geometry self.new ≡ geometry self.old }
+        ensures did { ReadDoes (base self.old) (did self.old desk.old self.new desk.new) part out.new result }
+        ensures base { base self.new ≡ base self.old }
         ensures length { length out.new ≡ length out.old };
 
     /// Writes a part.
     fn write(&mut self, desk: &mut K, part: Part, bytes: &[u8]) -> Result<(), CallFault>
         requires ready { ready self.old desk.old }
-        requires part { IsPart (geometry self.old) part }
+        requires part { IsPart (base self.old).geometry part }
         requires bytes { length bytes.now ≡ part.length }
         ensures ready { ready self.new desk.new }
-        ensures did { WriteDoes (did self.old desk.old self.new desk.new) part bytes.now result }
-        ensures geometry { geometry self.new ≡ geometry self.old };
+        ensures did { WriteDoes (base self.old) (did self.old desk.old self.new desk.new) part bytes.now result }
+        ensures base { base self.new ≡ base self.old };
 
     /// Has everything written back that was written before.
     fn flush(&mut self, desk: &mut K) -> Result<(), CallFault>
         requires { ready self.old desk.old }
         ensures ready { ready self.new desk.new }
-        ensures did { FlushDoes (did self.old desk.old self.new desk.new) result }
-        ensures geometry { geometry self.new ≡ geometry self.old };
+        ensures did { FlushDoes (base self.old) (did self.old desk.old self.new desk.new) result }
+        ensures base { base self.new ≡ base self.old };
 }

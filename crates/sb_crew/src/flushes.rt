@@ -27,6 +27,7 @@ impl<T: Tape> Alone<T> {
     ghost use Rattle.sb_core.specs.Represents.{geometry_of, reading_of};
     ghost use Rattle.sb_core.specs.Progress.{FlushLeads, IsIdle};
     ghost use Rattle.sb_core.specs.Steps.{AnswersFlush, CopiesFlush, flush_begin_entry, flush_step_entry};
+    ghost use Rattle.sb_crew.specs.Bases.{base_of};
     ghost use Rattle.sb_crew.specs.Outcomes.{FlushDoes};
     ghost use Rattle.sb_crew.specs.Ready.{IsReady};
     ghost use Rattle.sb_crew.specs.Runs.{Event, EventWhere, HasBegun, Did};
@@ -69,7 +70,7 @@ impl<T: Tape> Alone<T> {
         desk: &mut Desk<L, C>,
     ) -> Result<(), CallFault>
         requires ready { IsReady self.old.core self.old.reading (vec_len desk.old.room) }
-        ensures did { FlushDoes (Did self.old.names self.new.names self.old.core self.new.core
+        ensures did { FlushDoes (base_of self.old.core) (Did self.old.names self.new.names self.old.core self.new.core
             (T.told self.old.tape) (T.told self.new.tape) (L.log desk.old.link) (L.log desk.new.link)
             (L.faults desk.old.link) (L.faults desk.new.link)
             (C.ticks desk.old.clock) (C.ticks desk.new.clock)) result }

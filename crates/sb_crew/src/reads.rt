@@ -30,6 +30,7 @@ impl<T: Tape> Alone<T> {
     ghost use Rattle.sb_core.specs.Represents.{geometry_of, reading_of};
     ghost use Rattle.sb_core.specs.Progress.{ReadLeads};
     ghost use Rattle.sb_core.specs.Steps.{AnswersRead, CopiesRead, read_entry};
+    ghost use Rattle.sb_crew.specs.Bases.{base_of};
     ghost use Rattle.sb_crew.specs.Outcomes.{ReadDoes};
     ghost use Rattle.sb_crew.specs.Ready.{IsReady};
     ghost use Rattle.sb_crew.specs.Runs.{Event, Did};
@@ -63,7 +64,7 @@ impl<T: Tape> Alone<T> {
         requires ready { IsReady self.old.core self.old.reading (vec_len desk.old.room) }
         requires part { IsPart (geometry_of self.old.core) part }
         requires out { length out.old ≡ part.length }
-        ensures did { ReadDoes (Did self.old.names self.new.names self.old.core self.new.core
+        ensures did { ReadDoes (base_of self.old.core) (Did self.old.names self.new.names self.old.core self.new.core
             (T.told self.old.tape) (T.told self.new.tape) (L.log desk.old.link) (L.log desk.new.link)
             (L.faults desk.old.link) (L.faults desk.new.link)
             (C.ticks desk.old.clock) (C.ticks desk.new.clock)) part out.new result }

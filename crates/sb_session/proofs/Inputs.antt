@@ -4,7 +4,6 @@ use Rattle.std.proofs.Common.{append_assoc, append-nil, ap, sym, subst, refl, ar
 use Rattle.std.specs.Int.{w32, to_be_bytes}
 use Rattle.std.specs.List.{AllByRecursion}
 use Rattle.std.proofs.lemmas.List.{length-append}
-use Rattle.sb_base.specs.declared.geometry.Geometry.{Geometry}
 use Rattle.sb_base.specs.declared.entry.Entry.{Entry}
 use Rattle.sb_world.specs.declared.clock.Tick.{Tick}
 use Rattle.sb_world.specs.declared.link.Call.{Call}
@@ -16,6 +15,7 @@ use Rattle.sb_nbd.specs.Requests.{magic_bytes, fields_bytes, payload_length, Req
 use Rattle.sb_nbd.specs.RequestReading.{IsCutRequest, StopsRequest}
 use Rattle.sb_nbd.proofs.OneForm.{one_request, split_same, same_4, regrouped, same_wanted_first}
 use Rattle.sb_nbd.proofs.RequestParts.{length-magic_bytes, length-fields_bytes}
+use Rattle.sb_crew.specs.Bases.{Base}
 use Rattle.sb_session.specs.declared.end.SessionEnd.{SessionEnd}
 use Rattle.sb_session.specs.declared.end.SessionEnd.TheVariants.{Disconnected, Ended, Refused, ReadFault, WriteFault}
 use Rattle.sb_session.specs.declared.end.SessionEnd.TheVariants.{Spent}
@@ -42,11 +42,11 @@ going_on_join : (xs ys : List Request) → AllByRecursion GoesOn xs
 going_on_join [] ys first second = second
 going_on_join (x ∷ xs) ys first second = (first.0, going_on_join xs ys first.1 second)
 
-transcript_goes_on : (geometry : Geometry) (xs : List Exchange) → IsTranscript geometry xs
+transcript_goes_on : (base : Base) (xs : List Exchange) → IsTranscript base xs
     → AllByRecursion GoesOn (requests_of xs)
-transcript_goes_on geometry [] answered = tt
-transcript_goes_on geometry (x ∷ xs) answered =
-    going_on_join (requests_of xs) (x.request ∷ []) (transcript_goes_on geometry xs answered.1)
+transcript_goes_on base [] answered = tt
+transcript_goes_on base (x ∷ xs) answered =
+    going_on_join (requests_of xs) (x.request ∷ []) (transcript_goes_on base xs answered.1)
     (record { request = answered.0.request; goes_on = answered.0.goes_on }, tt)
 
 long : (r : Request) (x : List ℕ) → 28 + length r.payload ≤ length (request_bytes r ++ x)
@@ -225,18 +225,18 @@ ends_input now tail rest WriteFault told stops = tt
 ends_input now tail rest Spent told stops = tt
 
 -- the requests that a session answered are all there are, up to what ended it
-pub all_answered : (geometry : Geometry) (before now ha hb : Option (List ℕ))
+pub all_answered : (base : Base) (before now ha hb : Option (List ℕ))
     (did : List Entry → List Call → List Tick → Type 0) (end : SessionEnd) (n : ℕ) (rest : List ℕ) → now ≡ Some rest
-    → (s : Stopped geometry before now ha hb did end n)
+    → (s : Stopped base before now ha hb did end n)
     → (bytes : List ℕ) × (before ≡ Some bytes) × IsInput bytes (requests_of s.transcript) end
-all_answered geometry before now ha hb did end n rest told s = (
+all_answered base before now ha hb did end n rest told s = (
   _,
   s.taken.told rest told,
   record {
     tail = s.tail ++ rest;
     whole = append_assoc (asking_bytes s.transcript) s.tail rest
         ∙ ap (λ bytes. bytes ++ (s.tail ++ rest)) (asking_bytes-in_order s.transcript);
-    going_on = transcript_goes_on geometry s.transcript s.answered;
+    going_on = transcript_goes_on base s.transcript s.answered;
     ends = ends_input now s.tail rest end told s.stops;
   },
 )

@@ -1,7 +1,6 @@
 -- How runs of requests join.
 use Rattle.std.proofs.Common.{ℕ, ◌≡◌, ◌+◌, ◌∙◌, List, [], ◌∷◌, ◌++◌, Option, append_assoc, append-nil, length-append}
 use Rattle.std.proofs.Common.{ap, sym, subst, refl, arith}
-use Rattle.sb_base.specs.declared.geometry.Geometry.{Geometry}
 use Rattle.sb_base.specs.declared.entry.Entry.{Entry}
 use Rattle.sb_world.specs.Streams.{Takes}
 use Rattle.sb_world.specs.declared.clock.Tick.{Tick}
@@ -9,6 +8,7 @@ use Rattle.sb_world.specs.declared.link.Call.{Call}
 use Rattle.sb_nbd.specs.Requests.{request_bytes}
 use Rattle.sb_nbd.specs.Replies.{reply_bytes}
 use Rattle.sb_world.proofs.Streaming.{takes_both, takes_nothing, holds_both, holds_nothing}
+use Rattle.sb_crew.specs.Bases.{Base}
 use Rattle.sb_session.specs.declared.end.SessionEnd.{SessionEnd}
 use Rattle.sb_session.specs.declared.end.SessionEnd.TheVariants.{Spent}
 use Rattle.sb_session.specs.Transcripts.{Exchange, IsTranscript, entries_of, calls_of, ticks_of, asking_bytes}
@@ -41,10 +41,10 @@ ticks_of-append xs [] = refl
 ticks_of-append xs (y ∷ ys) = ap (λ ticks. y.ticks ++ ticks) (ticks_of-append xs ys)
     ∙ sym (append_assoc y.ticks (ticks_of ys) (ticks_of xs))
 
-transcripts_join : (geometry : Geometry) (xs ys : List Exchange) → IsTranscript geometry xs
-    → IsTranscript geometry ys → IsTranscript geometry (ys ++ xs)
-transcripts_join geometry xs [] first second = first
-transcripts_join geometry xs (y ∷ ys) first second = (second.0, transcripts_join geometry xs ys first second.1)
+transcripts_join : (base : Base) (xs ys : List Exchange) → IsTranscript base xs
+    → IsTranscript base ys → IsTranscript base (ys ++ xs)
+transcripts_join base xs [] first second = first
+transcripts_join base xs (y ∷ ys) first second = (second.0, transcripts_join base xs ys first second.1)
 
 -- what two runs of requests did
 did_joins : (P Q R : List Entry → List Call → List Tick → Type 0)
@@ -60,9 +60,9 @@ did_joins P Q R both xs ys first second =
     (sym (ticks_of-append xs ys))
     (both (entries_of xs) (entries_of ys) (calls_of xs) (calls_of ys) (ticks_of xs) (ticks_of ys) first second)))
 
-pub serves_nothing : (geometry : Geometry) (a ha : Option (List ℕ)) (did : List Entry → List Call → List Tick → Type 0)
-    → did [] [] [] → Serves geometry a a ha ha did 0
-serves_nothing geometry a ha did done = record {
+pub serves_nothing : (base : Base) (a ha : Option (List ℕ)) (did : List Entry → List Call → List Tick → Type 0)
+    → did [] [] [] → Serves base a a ha ha did 0
+serves_nothing base a ha did done = record {
   transcript = [];
   count = refl;
   answered = tt;
@@ -72,30 +72,30 @@ serves_nothing geometry a ha did done = record {
   held = holds_nothing ha;
 }
 
-pub serves_both : (geometry : Geometry) (a b c ha hb hc : Option (List ℕ))
+pub serves_both : (base : Base) (a b c ha hb hc : Option (List ℕ))
     (P Q R : List Entry → List Call → List Tick → Type 0) (m n : ℕ)
     → ((xs ys : List Entry) (us vs : List Call) (ss ts : List Tick) → P xs us ss → Q ys vs ts
     → R (ys ++ xs) (vs ++ us) (ts ++ ss))
-    → Serves geometry a b ha hb P m → Serves geometry b c hb hc Q n → Serves geometry a c ha hc R (m + n)
-serves_both geometry a b c ha hb hc P Q R m n both first second = record {
+    → Serves base a b ha hb P m → Serves base b c hb hc Q n → Serves base a c ha hc R (m + n)
+serves_both base a b c ha hb hc P Q R m n both first second = record {
   transcript = second.transcript ++ first.transcript;
   count = omega (arith, length-append second.transcript first.transcript, first.count, second.count);
-  answered = transcripts_join geometry first.transcript second.transcript first.answered second.answered;
+  answered = transcripts_join base first.transcript second.transcript first.answered second.answered;
   done = did_joins P Q R both first.transcript second.transcript first.done second.done;
   taken = subst (Takes a c) (sym (asking_bytes-append first.transcript second.transcript))
       (takes_both first.taken second.taken);
   held = rw (replying_bytes-append first.transcript second.transcript) (holds_both first.held second.held);
 }
 
-pub stopped_after : (geometry : Geometry) (a b c ha hb hc : Option (List ℕ))
+pub stopped_after : (base : Base) (a b c ha hb hc : Option (List ℕ))
     (P Q R : List Entry → List Call → List Tick → Type 0) (end : SessionEnd) (m n : ℕ)
     → ((xs ys : List Entry) (us vs : List Call) (ss ts : List Tick) → P xs us ss → Q ys vs ts
     → R (ys ++ xs) (vs ++ us) (ts ++ ss))
-    → Serves geometry a b ha hb P m → Stopped geometry b c hb hc Q end n → Stopped geometry a c ha hc R end (m + n)
-stopped_after geometry a b c ha hb hc P Q R end m n both first second = record {
+    → Serves base a b ha hb P m → Stopped base b c hb hc Q end n → Stopped base a c ha hc R end (m + n)
+stopped_after base a b c ha hb hc P Q R end m n both first second = record {
   transcript = second.transcript ++ first.transcript;
   count = omega (arith, length-append second.transcript first.transcript, first.count, second.count);
-  answered = transcripts_join geometry first.transcript second.transcript first.answered second.answered;
+  answered = transcripts_join base first.transcript second.transcript first.answered second.answered;
   done = did_joins P Q R both first.transcript second.transcript first.done second.done;
   tail = second.tail;
   taken = subst (Takes a c)
@@ -115,10 +115,10 @@ stopped_after geometry a b c ha hb hc P Q R end m n both first second = record {
 }
 
 -- after the last request that may be answered
-pub serves_spent : (geometry : Geometry) (a b ha hb : Option (List ℕ))
-    (did : List Entry → List Call → List Tick → Type 0) (n : ℕ) → Serves geometry a b ha hb did n
-    → Stopped geometry a b ha hb did Spent n
-serves_spent geometry a b ha hb did n first = record {
+pub serves_spent : (base : Base) (a b ha hb : Option (List ℕ))
+    (did : List Entry → List Call → List Tick → Type 0) (n : ℕ) → Serves base a b ha hb did n
+    → Stopped base a b ha hb did Spent n
+serves_spent base a b ha hb did n first = record {
   transcript = first.transcript;
   count = first.count;
   answered = first.answered;

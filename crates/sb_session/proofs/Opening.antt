@@ -15,6 +15,7 @@ use Rattle.sb_nbd.specs.Options as options
 use Rattle.sb_nbd.specs.OptionReading.{StopsOption, option_in}
 use Rattle.sb_nbd.specs.Greetings.{greeting_bytes, export_bytes, StopsFlags}
 use Rattle.sb_world.proofs.Streaming.{takes_both, takes_nothing, holds_both}
+use Rattle.sb_crew.specs.Bases.{Base}
 use Rattle.sb_session.specs.declared.end.SessionEnd.{SessionEnd}
 use Rattle.sb_session.specs.declared.end.SessionEnd.TheVariants.{Refused, WriteFault}
 use Rattle.sb_session.specs.Handshakes.{end_of, export_option, opening_bytes, wants_zeroes, Opened, Unopened}
@@ -139,12 +140,12 @@ opens geometry t a b c ha hb hc flags asked room option none held first known re
 }
 
 -- a handshake, and the turns behind it
-pub served : (geometry : Geometry) (t : ℕ) (a b c ha hb hc : Option (List ℕ))
-    (did : List Entry → List Call → List Tick → Type 0) (end : SessionEnd) → Opened geometry t a b ha hb
-    → (ends : TurnsEnd geometry b c hb hc did end)
-    → Served geometry t a c ha hc end (entries_of ends.stopped.transcript) (calls_of ends.stopped.transcript)
+pub served : (base : Base) (t : ℕ) (a b c ha hb hc : Option (List ℕ))
+    (did : List Entry → List Call → List Tick → Type 0) (end : SessionEnd) → Opened base.geometry t a b ha hb
+    → (ends : TurnsEnd base b c hb hc did end)
+    → Served base t a c ha hc end (entries_of ends.stopped.transcript) (calls_of ends.stopped.transcript)
     (ticks_of ends.stopped.transcript)
-served geometry t a b c ha hb hc did end opened ends =
+served base t a b c ha hb hc did end opened ends =
     let s = ends.stopped in
     record {
       flags = opened.flags;
@@ -164,6 +165,6 @@ served geometry t a b c ha hb hc did end opened ends =
       spent = λ e. omega (arith, s.count, ends.spent e);
       unspent = λ e. ends.unspent (omega (arith, s.count, e));
       input = λ rest told.
-          let all = all_answered geometry b c hb hc did end ends.n rest told s in
+          let all = all_answered base b c hb hc did end ends.n rest told s in
           (all.0, opened.taken.told all.0 all.1, all.2);
     }

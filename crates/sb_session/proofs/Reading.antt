@@ -7,12 +7,12 @@ use Rattle.std.proofs.lemmas.List.{length-append, drop-drop}
 use Rattle.std.proofs.lemmas.List.Sums.{sum_by-append, sum_by-cons}
 use Rattle.std.proofs.lemmas.Slice.{take-put_mid}
 use borrow.Rule.Slice.PartMut.{put_mid}
-use Rattle.sb_base.specs.declared.geometry.Geometry.{Geometry}
 use Rattle.sb_base.specs.declared.part.Part.{Part}
 use Rattle.sb_base.specs.declared.entry.Entry.{Entry}
 use Rattle.sb_world.specs.declared.clock.Tick.{Tick}
 use Rattle.sb_world.specs.declared.link.Call.{Call}
 use Rattle.sb_nbd.specs.Requests.{Request}
+use Rattle.sb_crew.specs.Bases.{Base}
 use Rattle.sb_crew.specs.declared.calls.CallFault.{CallFault}
 use Rattle.sb_crew.specs.Outcomes.{Outcome, ReadDone, outcome_of, outcomes_of, bytes_of, bytes_read, asked_of}
 use Rattle.sb_crew.specs.Outcomes.{blocks_asked, IsBlockOf, AsksOnly, HasCause, ReadDoes, Does, Stops, WriteDone}
@@ -83,14 +83,14 @@ asks_failed ps qs p xs ys first second =
     (asks_wider (ps ++ p ∷ []) qs (ys ++ xs) (asks_more ps (p ∷ []) xs ys first second))
 
 -- a front of a goal was met, and then a call failed
-pub stops_after : (goal missing before : List Outcome) (xs ys : List Entry) (us vs : List Call)
+pub stops_after : (base : Base) (goal missing before : List Outcome) (xs ys : List Entry) (us vs : List Call)
     (ss ts : List Tick) (fault : CallFault) → 0 < length missing → missing ++ before ≡ goal → outcomes_of xs ≡ before
-    → outcomes_of ys ≡ [] → HasCause fault ys vs ts → Stops goal (ys ++ xs) (vs ++ us) (ts ++ ss) fault
-stops_after goal missing before xs ys us vs ss ts fault some whole first second cause = record {
+    → outcomes_of ys ≡ [] → HasCause base fault ys vs ts → Stops base goal (ys ++ xs) (vs ++ us) (ts ++ ss) fault
+stops_after base goal missing before xs ys us vs ss ts fault some whole first second cause = record {
   missing = missing;
   some = some;
   met = ap (λ os. missing ++ os) (outcomes_of-append xs ys ∙ ap (λ os. os ++ outcomes_of xs) second ∙ first) ∙ whole;
-  cause = cause_stays fault xs ys us vs ss ts cause;
+  cause = cause_stays base fault xs ys us vs ss ts cause;
 }
 
 -- how many bytes a part has
@@ -121,9 +121,9 @@ bytes_more at room out n m len within = sym
     (take-put_mid at m room out (at + n) (omega (arith, len)) (omega (arith, len, within)))
 
 -- nothing was read yet
-pub reads_none : (did : List Entry → List Call → List Tick → Type 0) (room : List ℕ) → did [] [] []
-    → ReadsRange did [] 0 room (Ok tt)
-reads_none did room done = record {
+pub reads_none : (base : Base) (did : List Entry → List Call → List Tick → Type 0) (room : List ℕ) → did [] [] []
+    → ReadsRange base did [] 0 room (Ok tt)
+reads_none base did room done = record {
   entries = [];
   calls = [];
   ticks = [];
@@ -134,13 +134,13 @@ reads_none did room done = record {
 }
 
 -- some parts were read, and one more
-pub reads_more : (P Q R : List Entry → List Call → List Tick → Type 0)
+pub reads_more : (base : Base) (P Q R : List Entry → List Call → List Tick → Type 0)
     → ((xs ys : List Entry) (us vs : List Call) (ss ts : List Tick) → P xs us ss → Q ys vs ts
     → R (ys ++ xs) (vs ++ us) (ts ++ ss))
     → (ps : List Part) (p : Part) (at m : ℕ) (room out : List ℕ) → length out ≡ p.length → at + p.length ≤ length room
-    → ReadsRange P ps at room (Ok tt) → ReadDoes Q p out (Ok tt)
-    → ReadsRange R (ps ++ p ∷ []) (at + p.length) (put_mid at m room out) (Ok tt)
-reads_more P Q R both ps p at m room out len within first second = record {
+    → ReadsRange base P ps at room (Ok tt) → ReadDoes base Q p out (Ok tt)
+    → ReadsRange base R (ps ++ p ∷ []) (at + p.length) (put_mid at m room out) (Ok tt)
+reads_more base P Q R both ps p at m room out len within first second = record {
   entries = second.entries ++ first.entries;
   calls = second.calls ++ first.calls;
   ticks = second.ticks ++ first.ticks;
@@ -157,18 +157,18 @@ reads_more P Q R both ps p at m room out len within first second = record {
 }
 
 -- some parts were read, and then a call failed
-pub reads_stop : (P Q R : List Entry → List Call → List Tick → Type 0)
+pub reads_stop : (base : Base) (P Q R : List Entry → List Call → List Tick → Type 0)
     → ((xs ys : List Entry) (us vs : List Call) (ss ts : List Tick) → P xs us ss → Q ys vs ts
     → R (ys ++ xs) (vs ++ us) (ts ++ ss))
     → (ps qs : List Part) (p : Part) (at count : ℕ) (room now out : List ℕ) (fault : CallFault)
-    → ReadsRange P ps at room (Ok tt) → ReadDoes Q p out (Err fault)
-    → ReadsRange R (ps ++ p ∷ qs) count now (Err fault)
-reads_stop P Q R both ps qs p at count room now out fault first second = record {
+    → ReadsRange base P ps at room (Ok tt) → ReadDoes base Q p out (Err fault)
+    → ReadsRange base R (ps ++ p ∷ qs) count now (Err fault)
+reads_stop base P Q R both ps qs p at count room now out fault first second = record {
   entries = second.entries ++ first.entries;
   calls = second.calls ++ first.calls;
   ticks = second.ticks ++ first.ticks;
   done = both first.entries second.entries first.calls second.calls first.ticks second.ticks first.done second.done;
-  ends = stops_after (reads_of (ps ++ p ∷ qs)) (reads_of (p ∷ qs))
+  ends = stops_after base (reads_of (ps ++ p ∷ qs)) (reads_of (p ∷ qs))
       (reads_of ps) first.entries second.entries first.calls second.calls first.ticks second.ticks fault
       (omega (arith, length-append (reads_of qs) (ReadDone p ∷ [])))
       (sym (reads_of-append ps (p ∷ qs))) first.ends.0 second.ends.0 second.ends.1;
@@ -189,9 +189,9 @@ writes_of-append (p ∷ ps) qs payload =
     ∙ ap (λ bytes. writes_of qs bytes ++ (writes_of ps after ++ last)) behind
 
 -- nothing was written yet
-pub writes_none : (did : List Entry → List Call → List Tick → Type 0) (payload : List ℕ) → did [] [] []
-    → WritesRange did [] payload (Ok tt)
-writes_none did payload done = record {
+pub writes_none : (base : Base) (did : List Entry → List Call → List Tick → Type 0) (payload : List ℕ) → did [] [] []
+    → WritesRange base did [] payload (Ok tt)
+writes_none base did payload done = record {
   entries = [];
   calls = [];
   ticks = [];
@@ -202,13 +202,13 @@ writes_none did payload done = record {
 }
 
 -- some parts were written, and one more
-pub writes_more : (P Q R : List Entry → List Call → List Tick → Type 0)
+pub writes_more : (base : Base) (P Q R : List Entry → List Call → List Tick → Type 0)
     → ((xs ys : List Entry) (us vs : List Call) (ss ts : List Tick) → P xs us ss → Q ys vs ts
     → R (ys ++ xs) (vs ++ us) (ts ++ ss))
     → (ps : List Part) (p : Part) (at : ℕ) (payload : List ℕ) → at ≡ sum_by (λ (part : Part). part.length) ps
-    → WritesRange P ps payload (Ok tt) → WriteDoes Q p (take (at + p.length - at) (drop at payload)) (Ok tt)
-    → WritesRange R (ps ++ p ∷ []) payload (Ok tt)
-writes_more P Q R both ps p at payload is first second =
+    → WritesRange base P ps payload (Ok tt) → WriteDoes base Q p (take (at + p.length - at) (drop at payload)) (Ok tt)
+    → WritesRange base R (ps ++ p ∷ []) payload (Ok tt)
+writes_more base P Q R both ps p at payload is first second =
     let width : at + p.length - at ≡ p.length = omega arith in
     let given = ap (λ n. WriteDone p (take n (drop at payload)) ∷ []) width
     ∙ ap (λ n. WriteDone p (take p.length (drop n payload)) ∷ []) is in
@@ -225,20 +225,20 @@ writes_more P Q R both ps p at payload is first second =
     }
 
 -- some parts were written, and then a call failed
-pub writes_stop : (P Q R : List Entry → List Call → List Tick → Type 0)
+pub writes_stop : (base : Base) (P Q R : List Entry → List Call → List Tick → Type 0)
     → ((xs ys : List Entry) (us vs : List Call) (ss ts : List Tick) → P xs us ss → Q ys vs ts
     → R (ys ++ xs) (vs ++ us) (ts ++ ss))
     → (ps qs : List Part) (p : Part) (payload bytes : List ℕ) (fault : CallFault)
-    → WritesRange P ps payload (Ok tt) → WriteDoes Q p bytes (Err fault)
-    → WritesRange R (ps ++ p ∷ qs) payload (Err fault)
-writes_stop P Q R both ps qs p payload bytes fault first second =
+    → WritesRange base P ps payload (Ok tt) → WriteDoes base Q p bytes (Err fault)
+    → WritesRange base R (ps ++ p ∷ qs) payload (Err fault)
+writes_stop base P Q R both ps qs p payload bytes fault first second =
     let after = drop (sum_by length_of ps) payload in
     record {
       entries = second.entries ++ first.entries;
       calls = second.calls ++ first.calls;
       ticks = second.ticks ++ first.ticks;
       done = both first.entries second.entries first.calls second.calls first.ticks second.ticks first.done second.done;
-      ends = stops_after (writes_of (ps ++ p ∷ qs) payload) (writes_of (p ∷ qs) after)
+      ends = stops_after base (writes_of (ps ++ p ∷ qs) payload) (writes_of (p ∷ qs) after)
           (writes_of ps payload) first.entries second.entries first.calls second.calls first.ticks second.ticks fault
           (omega (
             arith,
@@ -250,20 +250,22 @@ writes_stop P Q R both ps qs p payload bytes fault first second =
     }
 
 -- the reply to a goal that was met
-completes : (goal : List Outcome) (bytes : List ℕ) (entries : List Entry) (calls : List Call) (ticks : List Tick)
-    → outcomes_of entries ≡ goal → IsAnswer goal bytes entries calls ticks 0 bytes
-completes goal bytes entries calls ticks met = inl (record { met = met; no_error = refl; body_is = refl })
+completes : (base : Base) (goal : List Outcome) (bytes : List ℕ) (entries : List Entry) (calls : List Call)
+    (ticks : List Tick) → outcomes_of entries ≡ goal → IsAnswer base goal bytes entries calls ticks 0 bytes
+completes base goal bytes entries calls ticks met = inl (record { met = met; no_error = refl; body_is = refl })
 
 -- the reply to one that wasn't
-fails : (goal : List Outcome) (bytes : List ℕ) (entries : List Entry) (calls : List Call) (ticks : List Tick)
-    (fault : CallFault) (error : ℕ) → error ≡ error_of fault → Stops goal entries calls ticks fault
-    → IsAnswer goal bytes entries calls ticks error []
-fails goal bytes entries calls ticks fault error is stops =
+fails : (base : Base) (goal : List Outcome) (bytes : List ℕ) (entries : List Entry) (calls : List Call)
+    (ticks : List Tick) (fault : CallFault) (error : ℕ) → error ≡ error_of fault
+    → Stops base goal entries calls ticks fault
+    → IsAnswer base goal bytes entries calls ticks error []
+fails base goal bytes entries calls ticks fault error is stops =
     inr (record { fault = fault; stops = stops; number = is; no_bytes = refl })
 
-pub read_answers : (did : List Entry → List Call → List Tick → Type 0) (parts : List Part) (count : ℕ) (room : List ℕ)
-    → ReadsRange did parts count room (Ok tt) → ReadAnswers did parts 0 (take count room)
-read_answers did parts count room read = record {
+pub read_answers : (base : Base) (did : List Entry → List Call → List Tick → Type 0) (parts : List Part) (count : ℕ)
+    (room : List ℕ)
+    → ReadsRange base did parts count room (Ok tt) → ReadAnswers base did parts 0 (take count room)
+read_answers base did parts count room read = record {
   entries = read.entries;
   calls = read.calls;
   ticks = read.ticks;
@@ -272,43 +274,48 @@ read_answers did parts count room read = record {
   ends = inl (record { met = read.ends.0; no_error = refl; body_is = sym read.ends.1 });
 }
 
-pub read_fails : (did : List Entry → List Call → List Tick → Type 0) (parts : List Part) (count error : ℕ)
+pub read_fails : (base : Base) (did : List Entry → List Call → List Tick → Type 0) (parts : List Part) (count error : ℕ)
     (room : List ℕ) (fault : CallFault) → error ≡ error_of fault
-    → ReadsRange did parts count room (Err fault) → ReadAnswers did parts error []
-read_fails did parts count error room fault is read = record {
+    → ReadsRange base did parts count room (Err fault) → ReadAnswers base did parts error []
+read_fails base did parts count error room fault is read = record {
   entries = read.entries;
   calls = read.calls;
   ticks = read.ticks;
   done = read.done;
   asks = read.asks;
-  ends = fails (reads_of parts) (bytes_read read.entries) read.entries read.calls read.ticks fault error is read.ends;
+  ends = fails base (reads_of parts) (bytes_read read.entries) read.entries read.calls read.ticks fault error is
+      read.ends;
 }
 
-pub write_answers : (did : List Entry → List Call → List Tick → Type 0) (parts : List Part) (payload : List ℕ)
-    → WritesRange did parts payload (Ok tt) → WriteAnswers did parts payload 0
-write_answers did parts payload written = record {
+pub write_answers : (base : Base) (did : List Entry → List Call → List Tick → Type 0) (parts : List Part)
+    (payload : List ℕ)
+    → WritesRange base did parts payload (Ok tt) → WriteAnswers base did parts payload 0
+write_answers base did parts payload written = record {
   entries = written.entries;
   calls = written.calls;
   ticks = written.ticks;
   done = written.done;
   asks = written.asks;
-  ends = completes (writes_of parts payload) [] written.entries written.calls written.ticks written.ends;
+  ends = completes base (writes_of parts payload) [] written.entries written.calls written.ticks written.ends;
 }
 
-pub write_fails : (did : List Entry → List Call → List Tick → Type 0) (parts : List Part) (payload : List ℕ) (error : ℕ)
-    (fault : CallFault) → error ≡ error_of fault → WritesRange did parts payload (Err fault)
-    → WriteAnswers did parts payload error
-write_fails did parts payload error fault is written = record {
+pub write_fails : (base : Base) (did : List Entry → List Call → List Tick → Type 0) (parts : List Part)
+    (payload : List ℕ) (error : ℕ) (fault : CallFault) → error ≡ error_of fault
+    → WritesRange base did parts payload (Err fault)
+    → WriteAnswers base did parts payload error
+write_fails base did parts payload error fault is written = record {
   entries = written.entries;
   calls = written.calls;
   ticks = written.ticks;
   done = written.done;
   asks = written.asks;
-  ends = fails (writes_of parts payload) [] written.entries written.calls written.ticks fault error is written.ends;
+  ends = fails base (writes_of parts payload) [] written.entries written.calls written.ticks fault error is
+      written.ends;
 }
 
-pub flush_answers : (did : List Entry → List Call → List Tick → Type 0) → FlushDoes did (Ok tt) → FlushAnswers did 0
-flush_answers did flushed = record {
+pub flush_answers : (base : Base) (did : List Entry → List Call → List Tick → Type 0) → FlushDoes base did (Ok tt)
+    → FlushAnswers base did 0
+flush_answers base did flushed = record {
   entries = flushed.entries;
   calls = flushed.calls;
   ticks = flushed.ticks;
@@ -316,13 +323,13 @@ flush_answers did flushed = record {
   asks = flushed.asks;
   ends = (
     flushed.ends.0,
-    completes (flush_of flushed.ends.0) [] flushed.entries flushed.calls flushed.ticks flushed.ends.1,
+    completes base (flush_of flushed.ends.0) [] flushed.entries flushed.calls flushed.ticks flushed.ends.1,
   );
 }
 
-pub flush_fails : (did : List Entry → List Call → List Tick → Type 0) (error : ℕ) (fault : CallFault)
-    → error ≡ error_of fault → FlushDoes did (Err fault) → FlushAnswers did error
-flush_fails did error fault is flushed = record {
+pub flush_fails : (base : Base) (did : List Entry → List Call → List Tick → Type 0) (error : ℕ) (fault : CallFault)
+    → error ≡ error_of fault → FlushDoes base did (Err fault) → FlushAnswers base did error
+flush_fails base did error fault is flushed = record {
   entries = flushed.entries;
   calls = flushed.calls;
   ticks = flushed.ticks;
@@ -330,17 +337,17 @@ flush_fails did error fault is flushed = record {
   asks = flushed.asks;
   ends = (
     flushed.ends.0,
-    fails (flush_of flushed.ends.0) [] flushed.entries flushed.calls flushed.ticks fault error is
+    fails base (flush_of flushed.ends.0) [] flushed.entries flushed.calls flushed.ticks fault error is
         flushed.ends.1,
   );
 }
 
 -- the reply to a request that is refused
 pub refused_answers : (did : List Entry → List Call → List Tick → Type 0)
-    (geometry : Geometry) (r : Request) (error : ℕ)
-    → refusal geometry r.wanted ≡ Some error → did [] [] [] → Answers did geometry r error []
-refused_answers did geometry r error is done =
-    let refused : Does did [] (AnswersBy (Some error) geometry r error []) = record {
+    (base : Base) (r : Request) (error : ℕ)
+    → refusal base.geometry r.wanted ≡ Some error → did [] [] [] → Answers did base r error []
+refused_answers did base r error is done =
+    let refused : Does did [] (AnswersBy (Some error) base r error []) = record {
       entries = [];
       calls = [];
       ticks = [];
@@ -348,4 +355,4 @@ refused_answers did geometry r error is done =
       asks = record { asked = tt };
       ends = record { no_entries = refl; no_calls = refl; no_ticks = refl; number = refl; no_bytes = refl };
     } in
-    subst (λ code. Does did (parts_asked code geometry r) (AnswersBy code geometry r error [])) (sym is) refused
+    subst (λ code. Does did (parts_asked code base.geometry r) (AnswersBy code base r error [])) (sym is) refused

@@ -1,7 +1,6 @@
 -- What one request comes to.
 use Rattle.std.proofs.Common.{ℕ, ◌≡◌, ◌≢◌, List, [], ◌∷◌, ◌++◌, Option, Err, true, false, append-nil, sym, subst, refl}
 use Rattle.std.proofs.Common.{arith}
-use Rattle.sb_base.specs.declared.geometry.Geometry.{Geometry}
 use Rattle.sb_base.specs.declared.entry.Entry.{Entry}
 use Rattle.sb_world.specs.Streams.{Takes, Holds, WriteHolds}
 use Rattle.sb_world.specs.declared.clock.Tick.{Tick}
@@ -12,6 +11,7 @@ use Rattle.sb_nbd.specs.Requests.{Request, IsRequest, request_bytes}
 use Rattle.sb_nbd.specs.RequestReading.{StopsRequest}
 use Rattle.sb_nbd.specs.Replies.{reply_bytes}
 use Rattle.sb_world.proofs.Streaming.{holds_nothing}
+use Rattle.sb_crew.specs.Bases.{Base}
 use Rattle.sb_session.specs.declared.end.SessionEnd.{SessionEnd}
 use Rattle.sb_session.specs.declared.end.SessionEnd.TheVariants.{Disconnected, WriteFault, Spent}
 use Rattle.sb_session.specs.Goals.{is_disc}
@@ -40,10 +40,10 @@ end_unspent nbd.ReadFault e = cc
 end_unspent nbd.WriteFault e = cc
 
 -- no request, and bytes that end the session
-stops_at_once : (geometry : Geometry) (a b h : Option (List ℕ)) (did : List Entry → List Call → List Tick → Type 0)
+stops_at_once : (base : Base) (a b h : Option (List ℕ)) (did : List Entry → List Call → List Tick → Type 0)
     (tail : List ℕ) (end : SessionEnd)
-    → did [] [] [] → Takes a b tail → StopsBy b tail end → end ≢ Spent → TurnEnds geometry a b h h did (Err end)
-stops_at_once geometry a b h did tail end done taken stops unspent = record {
+    → did [] [] [] → Takes a b tail → StopsBy b tail end → end ≢ Spent → TurnEnds base a b h h did (Err end)
+stops_at_once base a b h did tail end done taken stops unspent = record {
   n = 0;
   within = omega arith;
   one = λ e. absurd (omega (arith, e));
@@ -62,20 +62,20 @@ stops_at_once geometry a b h did tail end done taken stops unspent = record {
   };
 }
 
-pub reading_stops : (geometry : Geometry) (a b h : Option (List ℕ)) (did : List Entry → List Call → List Tick → Type 0)
+pub reading_stops : (base : Base) (a b h : Option (List ℕ)) (did : List Entry → List Call → List Tick → Type 0)
     (end : NbdEnd)
     → did [] [] [] → ((bytes : List ℕ) × Takes a b bytes × StopsRequest b bytes end)
-    → TurnEnds geometry a b h h did (Err (end_of end))
-reading_stops geometry a b h did end done read =
-    stops_at_once geometry a b h did read.0 (end_of end) done read.1 (stops_by b read.0 end read.2)
+    → TurnEnds base a b h h did (Err (end_of end))
+reading_stops base a b h did end done read =
+    stops_at_once base a b h did read.0 (end_of end) done read.1 (stops_by b read.0 end read.2)
     (end_unspent end)
 
-pub disc_stops : (geometry : Geometry) (a b h : Option (List ℕ))
+pub disc_stops : (base : Base) (a b h : Option (List ℕ))
     (did : List Entry → List Call → List Tick → Type 0) (r : Request)
     → did [] [] [] → IsRequest r → is_disc r.wanted ≡ true → Takes a b (request_bytes r)
-    → TurnEnds geometry a b h h did (Err Disconnected)
-disc_stops geometry a b h did r done is disc taken =
-    stops_at_once geometry a b h did (request_bytes r) Disconnected done taken
+    → TurnEnds base a b h h did (Err Disconnected)
+disc_stops base a b h did r done is disc taken =
+    stops_at_once base a b h did (request_bytes r) Disconnected done taken
     (r, record { request = is; disc = disc }, refl) (λ e. cc)
 
 -- the exchange of a request that was done
@@ -98,12 +98,12 @@ did_one did entries calls ticks done =
     (subst (λ cs. did entries cs (ticks ++ [])) (sym (append-nil calls))
     (subst (did entries calls) (sym (append-nil ticks)) done))
 
-pub serves_one : (geometry : Geometry) (a b ha hb : Option (List ℕ)) (did : List Entry → List Call → List Tick → Type 0)
+pub serves_one : (base : Base) (a b ha hb : Option (List ℕ)) (did : List Entry → List Call → List Tick → Type 0)
     (r : Request) (error : ℕ) (body : List ℕ)
-    → IsRequest r → is_disc r.wanted ≡ false → Answers did geometry r error body
+    → IsRequest r → is_disc r.wanted ≡ false → Answers did base r error body
     → Takes a b (request_bytes r) → Holds ha hb (reply_bytes error r.wanted.cookie body)
-    → Serves geometry a b ha hb did 1
-serves_one geometry a b ha hb did r error body is goes_on answers taken held = record {
+    → Serves base a b ha hb did 1
+serves_one base a b ha hb did r error body is goes_on answers taken held = record {
   transcript = exchange r answers.entries answers.calls answers.ticks error body ∷ [];
   count = refl;
   answered = (record { request = is; goes_on = goes_on; answer = answers.ends; asks = answers.asks }, tt);
@@ -112,12 +112,12 @@ serves_one geometry a b ha hb did r error body is goes_on answers taken held = r
   held = held;
 }
 
-pub writing_stops : (geometry : Geometry) (a b ha hb : Option (List ℕ))
+pub writing_stops : (base : Base) (a b ha hb : Option (List ℕ))
     (did : List Entry → List Call → List Tick → Type 0) (r : Request) (error : ℕ) (body : List ℕ) (fault : NbdEnd)
-    → IsRequest r → is_disc r.wanted ≡ false → Answers did geometry r error body
+    → IsRequest r → is_disc r.wanted ≡ false → Answers did base r error body
     → Takes a b (request_bytes r) → WriteHolds ha hb (Err fault) (reply_bytes error r.wanted.cookie body)
-    → TurnEnds geometry a b ha hb did (Err WriteFault)
-writing_stops geometry a b ha hb did r error body fault is goes_on answers taken held = record {
+    → TurnEnds base a b ha hb did (Err WriteFault)
+writing_stops base a b ha hb did r error body fault is goes_on answers taken held = record {
   n = 1;
   within = omega arith;
   one = λ _. refl;

@@ -7,33 +7,37 @@ use Rattle.sb_world.specs.declared.clock.Tick.{Tick}
 use Rattle.sb_world.specs.declared.link.Call.{Call}
 use Rattle.sb_nbd.specs.declared.reply.TheConstants.{EIO, ENOMEM}
 use Rattle.sb_nbd.specs.Requests.{Request}
+use Rattle.sb_crew.specs.Bases.{Base}
 use Rattle.sb_crew.specs.declared.calls.CallFault.{CallFault}
 use Rattle.sb_crew.specs.declared.calls.CallFault.TheVariants.{StoreFault, Memory, StaleRead, ClockStalled}
 use Rattle.sb_crew.specs.Outcomes.{Outcome, outcomes_of, bytes_read, flush_of, Stops, Does}
 use Rattle.sb_session.specs.Goals.{refusal, parts_wanted, reads_of, writes_of, goal_of, body_of}
 
 -- all parts were read into the front of a buffer, or a call failed before
-abbrev pub RangeReads : List Part → ℕ → List ℕ → Result Unit CallFault → List Entry → List Call → List Tick
+abbrev pub RangeReads : Base → List Part → ℕ → List ℕ → Result Unit CallFault → List Entry → List Call → List Tick
     → Type 0
-RangeReads parts count room (Ok done) entries calls ticks =
+RangeReads base parts count room (Ok done) entries calls ticks =
     (outcomes_of entries ≡ reads_of parts) × (bytes_read entries ≡ take count room)
-RangeReads parts count room (Err fault) entries calls ticks = Stops (reads_of parts) entries calls ticks fault
+RangeReads base parts count room (Err fault) entries calls ticks = Stops base (reads_of parts) entries calls ticks fault
 
 -- what reading parts did
-abbrev pub ReadsRange : (List Entry → List Call → List Tick → Type 0) → List Part → ℕ → List ℕ → Result Unit CallFault
+abbrev pub ReadsRange : Base → (List Entry → List Call → List Tick → Type 0) → List Part → ℕ → List ℕ
+    → Result Unit CallFault
     → Type 0
-ReadsRange did parts count room result = Does did parts (RangeReads parts count room result)
+ReadsRange base did parts count room result = Does did parts (RangeReads base parts count room result)
 
 -- all parts were written from a payload, or a call failed before
-abbrev pub RangeWrites : List Part → List ℕ → Result Unit CallFault → List Entry → List Call → List Tick
+abbrev pub RangeWrites : Base → List Part → List ℕ → Result Unit CallFault → List Entry → List Call → List Tick
     → Type 0
-RangeWrites parts payload (Ok done) entries calls ticks = outcomes_of entries ≡ writes_of parts payload
-RangeWrites parts payload (Err fault) entries calls ticks = Stops (writes_of parts payload) entries calls ticks fault
+RangeWrites base parts payload (Ok done) entries calls ticks = outcomes_of entries ≡ writes_of parts payload
+RangeWrites base parts payload (Err fault) entries calls ticks =
+    Stops base (writes_of parts payload) entries calls ticks fault
 
 -- what writing parts did
-abbrev pub WritesRange : (List Entry → List Call → List Tick → Type 0) → List Part → List ℕ → Result Unit CallFault
+abbrev pub WritesRange : Base → (List Entry → List Call → List Tick → Type 0) → List Part → List ℕ
+    → Result Unit CallFault
     → Type 0
-WritesRange did parts payload result = Does did parts (RangeWrites parts payload result)
+WritesRange base did parts payload result = Does did parts (RangeWrites base parts payload result)
 
 -- the error number of a fault
 abbrev pub error_of : CallFault → ℕ
@@ -50,33 +54,33 @@ pub record Completes (goal : List Outcome) (bytes : List ℕ) (entries : List En
   pub body_is : body ≡ bytes
 
 -- it wasn't, for this fault: its error number, and no bytes
-pub record Fails (goal : List Outcome) (entries : List Entry) (calls : List Call) (ticks : List Tick) (error : ℕ)
-    (body : List ℕ) : Type 0 where
+pub record Fails (base : Base) (goal : List Outcome) (entries : List Entry) (calls : List Call) (ticks : List Tick)
+    (error : ℕ) (body : List ℕ) : Type 0 where
   pub fault : CallFault
-  pub stops : Stops goal entries calls ticks fault
+  pub stops : Stops base goal entries calls ticks fault
   pub number : error ≡ error_of fault
   pub no_bytes : body ≡ []
 
 -- the goal was met or it wasn't
-abbrev pub IsAnswer : List Outcome → List ℕ → List Entry → List Call → List Tick → ℕ → List ℕ → Type 0
-IsAnswer goal bytes entries calls ticks error body =
-    Completes goal bytes entries error body ⊎ Fails goal entries calls ticks error body
+abbrev pub IsAnswer : Base → List Outcome → List ℕ → List Entry → List Call → List Tick → ℕ → List ℕ → Type 0
+IsAnswer base goal bytes entries calls ticks error body =
+    Completes goal bytes entries error body ⊎ Fails base goal entries calls ticks error body
 
 -- what a READ of parts did, and the reply to it
-abbrev pub ReadAnswers : (List Entry → List Call → List Tick → Type 0) → List Part → ℕ → List ℕ → Type 0
-ReadAnswers did parts error body =
+abbrev pub ReadAnswers : Base → (List Entry → List Call → List Tick → Type 0) → List Part → ℕ → List ℕ → Type 0
+ReadAnswers base did parts error body =
     Does did parts
-    (λ entries calls ticks. IsAnswer (reads_of parts) (bytes_read entries) entries calls ticks error body)
+    (λ entries calls ticks. IsAnswer base (reads_of parts) (bytes_read entries) entries calls ticks error body)
 
 -- what a WRITE to parts did, and the error of its reply
-abbrev pub WriteAnswers : (List Entry → List Call → List Tick → Type 0) → List Part → List ℕ → ℕ → Type 0
-WriteAnswers did parts payload error =
-    Does did parts (λ entries calls ticks. IsAnswer (writes_of parts payload) [] entries calls ticks error [])
+abbrev pub WriteAnswers : Base → (List Entry → List Call → List Tick → Type 0) → List Part → List ℕ → ℕ → Type 0
+WriteAnswers base did parts payload error =
+    Does did parts (λ entries calls ticks. IsAnswer base (writes_of parts payload) [] entries calls ticks error [])
 
 -- what a FLUSH did, and the error of its reply
-abbrev pub FlushAnswers : (List Entry → List Call → List Tick → Type 0) → ℕ → Type 0
-FlushAnswers did error =
-    Does did [] (λ entries calls ticks. (mark : ℕ) × IsAnswer (flush_of mark) [] entries calls ticks error [])
+abbrev pub FlushAnswers : Base → (List Entry → List Call → List Tick → Type 0) → ℕ → Type 0
+FlushAnswers base did error =
+    Does did [] (λ entries calls ticks. (mark : ℕ) × IsAnswer base (flush_of mark) [] entries calls ticks error [])
 
 -- a request was refused by this error, and nothing was done
 pub record IsRefusal (code : ℕ) (entries : List Entry) (calls : List Call) (ticks : List Tick) (error : ℕ)
@@ -88,11 +92,11 @@ pub record IsRefusal (code : ℕ) (entries : List Entry) (calls : List Call) (ti
   pub no_bytes : body ≡ []
 
 -- error and bytes of the reply to a request that isn't DISC, by how it is refused
-abbrev pub AnswersBy : Option ℕ → Geometry → Request → ℕ → List ℕ → List Entry → List Call → List Tick
+abbrev pub AnswersBy : Option ℕ → Base → Request → ℕ → List ℕ → List Entry → List Call → List Tick
     → Type 0
-AnswersBy (Some code) geometry r error body entries calls ticks = IsRefusal code entries calls ticks error body
-AnswersBy None geometry r error body entries calls ticks =
-    (mark : ℕ) × IsAnswer (goal_of geometry r mark) (body_of r.wanted entries) entries calls ticks error body
+AnswersBy (Some code) base r error body entries calls ticks = IsRefusal code entries calls ticks error body
+AnswersBy None base r error body entries calls ticks =
+    (mark : ℕ) × IsAnswer base (goal_of base.geometry r mark) (body_of r.wanted entries) entries calls ticks error body
 
 -- the blocks that it may ask the store for
 abbrev pub parts_asked : Option ℕ → Geometry → Request → List Part
@@ -100,7 +104,7 @@ parts_asked (Some code) geometry r = []
 parts_asked None geometry r = parts_wanted geometry r.wanted
 
 -- what doing a request did, and the reply to it
-abbrev pub Answers : (List Entry → List Call → List Tick → Type 0) → Geometry → Request → ℕ → List ℕ → Type 0
-Answers did geometry r error body =
-    Does did (parts_asked (refusal geometry r.wanted) geometry r)
-    (AnswersBy (refusal geometry r.wanted) geometry r error body)
+abbrev pub Answers : (List Entry → List Call → List Tick → Type 0) → Base → Request → ℕ → List ℕ → Type 0
+Answers did base r error body =
+    Does did (parts_asked (refusal base.geometry r.wanted) base.geometry r)
+    (AnswersBy (refusal base.geometry r.wanted) base r error body)

@@ -2,12 +2,12 @@
 -- newest first.
 use Rattle.std.specs.Prelude.{ℕ, ◌≡◌, false, List, [], ◌∷◌, ◌++◌}
 use Rattle.std.specs.List.{AllByRecursion}
-use Rattle.sb_base.specs.declared.geometry.Geometry.{Geometry}
 use Rattle.sb_base.specs.declared.entry.Entry.{Entry}
 use Rattle.sb_world.specs.declared.clock.Tick.{Tick}
 use Rattle.sb_world.specs.declared.link.Call.{Call}
 use Rattle.sb_nbd.specs.Requests.{Request, IsRequest, request_bytes}
 use Rattle.sb_nbd.specs.Replies.{reply_bytes}
+use Rattle.sb_crew.specs.Bases.{Base}
 use Rattle.sb_crew.specs.Outcomes.{AsksOnly}
 use Rattle.sb_session.specs.Goals.{is_disc, refusal}
 use Rattle.sb_session.specs.Answers.{AnswersBy, parts_asked}
@@ -22,16 +22,16 @@ pub record Exchange : Type 0 where
   pub body : List ℕ
 
 -- a request that isn't DISC, with the reply that it had to get
-pub record IsAnswered (geometry : Geometry) (x : Exchange) : Type 0 where
+pub record IsAnswered (base : Base) (x : Exchange) : Type 0 where
   pub request : IsRequest x.request
   pub goes_on : is_disc x.request.wanted ≡ false
-  pub answer : AnswersBy (refusal geometry x.request.wanted) geometry x.request x.error x.body x.entries x.calls
+  pub answer : AnswersBy (refusal base.geometry x.request.wanted) base x.request x.error x.body x.entries x.calls
       x.ticks
-  pub asks : AsksOnly (parts_asked (refusal geometry x.request.wanted) geometry x.request) x.entries
+  pub asks : AsksOnly (parts_asked (refusal base.geometry x.request.wanted) base.geometry x.request) x.entries
 
 -- the exchanges of a session
-abbrev pub IsTranscript : Geometry → List Exchange → Type 0
-IsTranscript geometry exchanges = AllByRecursion (IsAnswered geometry) exchanges
+abbrev pub IsTranscript : Base → List Exchange → Type 0
+IsTranscript base exchanges = AllByRecursion (IsAnswered base) exchanges
 
 -- the entries of exchanges
 abbrev pub entries_of : List Exchange → List Entry

@@ -4,6 +4,7 @@ ghost use Rattle.std.specs.Prelude.{◌≡◌, vec_len};
 ghost use Rattle.sb_base.specs.Shapes.{IsSound};
 ghost use Rattle.sb_world.specs.Told.{CountsFaults};
 ghost use Rattle.sb_core.specs.Represents.{geometry_of};
+ghost use Rattle.sb_crew.specs.Bases.{base_of};
 ghost use Rattle.sb_crew.specs.Disks.{core_of, names_of, tape_of, IsReadyWith};
 ghost use Rattle.sb_crew.specs.Runs.{Did};
 ghost use Rattle.sb_session.specs.Sessions.{SessionTold};
@@ -28,7 +29,7 @@ pub fn serve_alone<T: Tape, L: Link, C: Clock, R: Source, S: Sink>(
     requires ready { IsReadyWith disk.old desk.old }
     requires sound { IsSound (geometry_of (core_of disk.old)) }
     ensures ready { IsReadyWith disk.new desk.new }
-    ensures told { SessionTold (geometry_of (core_of disk.old)) TRANSMISSION_FLAGS (R.left source.old)
+    ensures told { SessionTold (base_of (core_of disk.old)) TRANSMISSION_FLAGS (R.left source.old)
         (R.left source.new) (S.held sink.old) (S.held sink.new) (Did (names_of disk.old) (names_of disk.new)
         (core_of disk.old) (core_of disk.new) (T.told (tape_of disk.old)) (T.told (tape_of disk.new))
         (L.log desk.old.link) (L.log desk.new.link) (L.faults desk.old.link) (L.faults desk.new.link)

@@ -28,15 +28,15 @@ pub(crate) fn perform<K, D: Calls<K>>(
     room: &mut [u8],
 ) -> Answer
     requires ready { D.ready disk.old desk.old }
-    requires sound { IsSound (D.geometry disk.old) }
+    requires sound { IsSound (D.base disk.old).geometry }
     requires room { MAX_PAYLOAD ≤ length room.old }
     requires request { IsRequest (request_in wanted room.old) }
     requires disc { is_disc wanted ≡ false }
     ensures ready { D.ready disk.new desk.new }
-    ensures told { Answers (D.did disk.old desk.old disk.new desk.new) (D.geometry disk.old)
+    ensures told { Answers (D.did disk.old desk.old disk.new desk.new) (D.base disk.old)
         (request_in wanted room.old) result.error (take result.count room.new) }
     ensures count { result.count ≤ length room.new }
-    ensures geometry { D.geometry disk.new ≡ D.geometry disk.old }
+    ensures base { D.base disk.new ≡ D.base disk.old }
     ensures length { length room.new ≡ length room.old }
 {
     match refused(disk.geometry(), wanted) {
@@ -91,14 +91,15 @@ fn answer_read<K, D: Calls<K>>(
     room: &mut [u8],
 ) -> Answer
     requires ready { D.ready disk.old desk.old }
-    requires sound { IsSound (D.geometry disk.old) }
-    requires range { IsRange (D.geometry disk.old) offset (offset + count) }
+    requires sound { IsSound (D.base disk.old).geometry }
+    requires range { IsRange (D.base disk.old).geometry offset (offset + count) }
     requires room { count ≤ length room.old }
     ensures ready { D.ready disk.new desk.new }
-    ensures told { ReadAnswers (D.did disk.old desk.old disk.new desk.new)
-        (parts_of (D.geometry disk.old).block_size offset (offset + count)) result.error (take result.count room.new) }
+    ensures told { ReadAnswers (D.base disk.old) (D.did disk.old desk.old disk.new desk.new)
+        (parts_of (D.base disk.old).geometry.block_size offset (offset + count)) result.error
+        (take result.count room.new) }
     ensures count { result.count ≤ length room.new }
-    ensures geometry { D.geometry disk.new ≡ D.geometry disk.old }
+    ensures base { D.base disk.new ≡ D.base disk.old }
     ensures length { length room.new ≡ length room.old }
 {
     match read_range(disk, desk, offset, count, room) {
@@ -115,12 +116,12 @@ fn answer_read<K, D: Calls<K>>(
 
 fn answer_write<K, D: Calls<K>>(disk: &mut D, desk: &mut K, offset: u64, payload: &[u8]) -> u32
     requires ready { D.ready disk.old desk.old }
-    requires sound { IsSound (D.geometry disk.old) }
-    requires range { IsRange (D.geometry disk.old) offset (offset + length payload.now) }
+    requires sound { IsSound (D.base disk.old).geometry }
+    requires range { IsRange (D.base disk.old).geometry offset (offset + length payload.now) }
     ensures ready { D.ready disk.new desk.new }
-    ensures told { WriteAnswers (D.did disk.old desk.old disk.new desk.new)
-        (parts_of (D.geometry disk.old).block_size offset (offset + length payload.now)) payload.now result }
-    ensures geometry { D.geometry disk.new ≡ D.geometry disk.old }
+    ensures told { WriteAnswers (D.base disk.old) (D.did disk.old desk.old disk.new desk.new)
+        (parts_of (D.base disk.old).geometry.block_size offset (offset + length payload.now)) payload.now result }
+    ensures base { D.base disk.new ≡ D.base disk.old }
 {
     match write_range(disk, desk, offset, payload) {
         Ok(()) => 0,
@@ -131,8 +132,8 @@ fn answer_write<K, D: Calls<K>>(disk: &mut D, desk: &mut K, offset: u64, payload
 fn answer_flush<K, D: Calls<K>>(disk: &mut D, desk: &mut K) -> u32
     requires { D.ready disk.old desk.old }
     ensures ready { D.ready disk.new desk.new }
-    ensures told { FlushAnswers (D.did disk.old desk.old disk.new desk.new) result }
-    ensures geometry { D.geometry disk.new ≡ D.geometry disk.old }
+    ensures told { FlushAnswers (D.base disk.old) (D.did disk.old desk.old disk.new desk.new) result }
+    ensures base { D.base disk.new ≡ D.base disk.old }
 {
     match disk.flush(desk) {
         Ok(()) => 0,

@@ -17,13 +17,13 @@ pub(crate) fn read_range<K, D: Calls<K>>(
     room: &mut [u8],
 ) -> Result<(), CallFault>
     requires ready { D.ready disk.old desk.old }
-    requires sound { IsSound (D.geometry disk.old) }
-    requires range { IsRange (D.geometry disk.old) offset (offset + count) }
+    requires sound { IsSound (D.base disk.old).geometry }
+    requires range { IsRange (D.base disk.old).geometry offset (offset + count) }
     requires room { count ≤ length room.old }
     ensures ready { D.ready disk.new desk.new }
-    ensures told { ReadsRange (D.did disk.old desk.old disk.new desk.new)
-        (parts_of (D.geometry disk.old).block_size offset (offset + count)) count room.new result }
-    ensures geometry { D.geometry disk.new ≡ D.geometry disk.old }
+    ensures told { ReadsRange (D.base disk.old) (D.did disk.old desk.old disk.new desk.new)
+        (parts_of (D.base disk.old).geometry.block_size offset (offset + count)) count room.new result }
+    ensures base { D.base disk.new ≡ D.base disk.old }
     ensures length { length room.new ≡ length room.old }
 {
     let geometry = disk.geometry();
@@ -46,12 +46,12 @@ pub(crate) fn write_range<K, D: Calls<K>>(
     payload: &[u8],
 ) -> Result<(), CallFault>
     requires ready { D.ready disk.old desk.old }
-    requires sound { IsSound (D.geometry disk.old) }
-    requires range { IsRange (D.geometry disk.old) offset (offset + length payload.now) }
+    requires sound { IsSound (D.base disk.old).geometry }
+    requires range { IsRange (D.base disk.old).geometry offset (offset + length payload.now) }
     ensures ready { D.ready disk.new desk.new }
-    ensures told { WritesRange (D.did disk.old desk.old disk.new desk.new)
-        (parts_of (D.geometry disk.old).block_size offset (offset + length payload.now)) payload.now result }
-    ensures geometry { D.geometry disk.new ≡ D.geometry disk.old }
+    ensures told { WritesRange (D.base disk.old) (D.did disk.old desk.old disk.new desk.new)
+        (parts_of (D.base disk.old).geometry.block_size offset (offset + length payload.now)) payload.now result }
+    ensures base { D.base disk.new ≡ D.base disk.old }
 {
     let geometry = disk.geometry();
     let mut at = 0;

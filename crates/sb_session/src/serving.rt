@@ -24,14 +24,14 @@ pub fn serve<K, D: Calls<K>, R: Source, S: Sink>(
     sink: &mut S,
 ) -> SessionEnd
     requires ready { D.ready disk.old desk.old }
-    requires sound { IsSound (D.geometry disk.old) }
+    requires sound { IsSound (D.base disk.old).geometry }
     requires room { MAX_PAYLOAD ≤ length room.old }
     ensures ready { D.ready disk.new desk.new }
-    ensures told { SessionTold (D.geometry disk.old) transmission (R.left source.old) (R.left source.new)
+    ensures told { SessionTold (D.base disk.old) transmission (R.left source.old) (R.left source.new)
         (S.held sink.old) (S.held sink.new) (D.did disk.old desk.old disk.new desk.new) result }
     ensures read_cause { CountsFaults (R.faults source.old) (R.faults source.new) (result ≡ SessionEnd.ReadFault) }
     ensures write_cause { CountsFaults (S.faults sink.old) (S.faults sink.new) (result ≡ SessionEnd.WriteFault) }
-    ensures geometry { D.geometry disk.new ≡ D.geometry disk.old }
+    ensures base { D.base disk.new ≡ D.base disk.old }
     ensures length { length room.new ≡ length room.old }
 {
     match open(disk.geometry(), transmission, room, source, sink) {

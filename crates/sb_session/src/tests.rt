@@ -4,7 +4,7 @@ ghost use Rattle.std.specs.Prelude.{◌≡◌, ◌≤◌, ◌*◌, None, IfOk, v
 ghost use Rattle.sb_crew.specs.Answers.{fault_for};
 
 use crate::{SessionEnd, serve};
-use sb_base::{Geometry, Part};
+use sb_base::{Geometry, Part, Settings};
 use sb_crew::{CallFault, Calls};
 use sb_nbd::MAX_PAYLOAD;
 use sb_world::{LinkFault, ReadFault, Sink, Source, WriteFault};
@@ -26,11 +26,28 @@ fn call_fault(fault: LinkFault) -> CallFault
 struct Bytes {
     kept: Vec<u8>,
     geometry: Geometry,
+    settings: Settings,
     fault: Option<LinkFault>,
 }
 
+/// Settings without a window.
+const SETTINGS: Settings = Settings {
+    min_write_delay: 0,
+    md5_time: 0,
+    md5_size: 0,
+    cache_size: 1,
+    write_delay: 0,
+    clean_time: 0,
+    max_dirty: 0,
+    stale_limit: 0,
+    read_ahead: 0,
+    read_ahead_trigger: 0,
+    threads: 1,
+    clients: 1,
+};
+
 impl Calls<()> for Bytes {
-    ghost geometry = { λ d. d.geometry };
+    ghost base = { λ d. record { geometry = d.geometry; settings = d.settings } };
 
     ghost ready = { λ d k. vec_len d.kept ≡ d.geometry.block_size * d.geometry.blocks };
 
@@ -246,6 +263,7 @@ fn run(
             let mut disk = Bytes {
                 kept,
                 geometry,
+                settings: SETTINGS,
                 fault,
             };
             Ok(Some(serve(&mut disk, &mut (), 5, room, source, sink)))

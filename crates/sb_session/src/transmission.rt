@@ -24,14 +24,14 @@ pub(crate) fn transmit<K, D: Calls<K>, R: Source, S: Sink>(
     sink: &mut S,
 ) -> SessionEnd
     requires ready { D.ready disk.old desk.old }
-    requires sound { IsSound (D.geometry disk.old) }
+    requires sound { IsSound (D.base disk.old).geometry }
     requires room { MAX_PAYLOAD ≤ length room.old }
     ensures ready { D.ready disk.new desk.new }
-    ensures told { TurnsEnd (D.geometry disk.old) (R.left source.old) (R.left source.new) (S.held sink.old)
+    ensures told { TurnsEnd (D.base disk.old) (R.left source.old) (R.left source.new) (S.held sink.old)
         (S.held sink.new) (D.did disk.old desk.old disk.new desk.new) result }
     ensures read_cause { CountsFaults (R.faults source.old) (R.faults source.new) (result ≡ SessionEnd.ReadFault) }
     ensures write_cause { CountsFaults (S.faults sink.old) (S.faults sink.new) (result ≡ SessionEnd.WriteFault) }
-    ensures geometry { D.geometry disk.new ≡ D.geometry disk.old }
+    ensures base { D.base disk.new ≡ D.base disk.old }
     ensures length { length room.new ≡ length room.old }
 {
     for _count in 0..MAX_ANSWERS - 1 {
@@ -52,16 +52,16 @@ fn turn<K, D: Calls<K>, R: Source, S: Sink>(
     sink: &mut S,
 ) -> Result<(), SessionEnd>
     requires ready { D.ready disk.old desk.old }
-    requires sound { IsSound (D.geometry disk.old) }
+    requires sound { IsSound (D.base disk.old).geometry }
     requires room { MAX_PAYLOAD ≤ length room.old }
     ensures ready { D.ready disk.new desk.new }
-    ensures told { TurnEnds (D.geometry disk.old) (R.left source.old) (R.left source.new) (S.held sink.old)
+    ensures told { TurnEnds (D.base disk.old) (R.left source.old) (R.left source.new) (S.held sink.old)
         (S.held sink.new) (D.did disk.old desk.old disk.new desk.new) result }
     ensures read_cause { CountsFaults (R.faults source.old) (R.faults source.new)
         (IsErrOf result SessionEnd.ReadFault) }
     ensures write_cause { CountsFaults (S.faults sink.old) (S.faults sink.new)
         (IsErrOf result SessionEnd.WriteFault) }
-    ensures geometry { D.geometry disk.new ≡ D.geometry disk.old }
+    ensures base { D.base disk.new ≡ D.base disk.old }
     ensures length { length room.new ≡ length room.old }
 {
     let wanted = match read_request(source, room) {

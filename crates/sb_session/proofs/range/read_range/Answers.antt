@@ -13,11 +13,12 @@ loop-part-init g c =
     let to = c.args.offset + c.args.count in
     record {
       ready = c.requires.ready;
-      told = reads_none _ c.args.room.now (g.D.Calls.did_nothing c.args.disk.now c.args.desk.now);
+      told = reads_none (g.D.Calls.base c.args.disk.now) _ c.args.room.now
+          (g.D.Calls.did_nothing c.args.disk.now c.args.desk.now);
       split = c.into_iter-part-iterator.ensures.into_iter_gives ∙ c.parts-part-items.ensures.parts
           ∙ ap (λ (geometry : Geometry). parts_of geometry.block_size c.args.offset to) c.geometry-geometry.ensures;
       at = refl;
-      geometry = refl;
+      base = refl;
       length = refl;
     }
 
@@ -38,12 +39,13 @@ loop-part-preserved g c =
     let len = more.length ∙ length_piece c.loop-part.at part.length c.loop-part.room within in
     record {
       ready = more.ready;
-      told = reads_more _ _ _ (g.D.Calls.did_both c.args.disk.now c.args.desk.now c.loop-part.disk
+      told = reads_more (g.D.Calls.base c.args.disk.now) _ _ _
+          (g.D.Calls.did_both c.args.disk.now c.args.desk.now c.loop-part.disk
           c.loop-part.desk c.read.new.self c.read.new.desk) yielded part c.loop-part.at _ c.loop-part.room
-          c.read.new.out len within before.told more.did;
+          c.read.new.out len within before.told (rw before.base at more.did);
       split = append_assoc yielded (part ∷ []) c.next.new.self ∙ split;
       at = length_more yielded part c.loop-part.at before.at;
-      geometry = more.geometry ∙ before.geometry;
+      base = more.base ∙ before.base;
       length = search (rules, overwrites, len, within, before.length);
     }
 
@@ -55,8 +57,10 @@ returns-in-Err-clause-told g c =
     let split = ap (λ parts. yielded ++ parts) (sym c.in-Some.ensures.steps) ∙ before.split in
     let room = put_mid c.loop-part.at (c.loop-part.at + c.in-Some.part.length - c.loop-part.at)
     c.loop-part.room c.read.new.out in
-    let stops = reads_stop _ _ did (g.D.Calls.did_both c.args.disk.now c.args.desk.now c.loop-part.disk
+    let stops = reads_stop (g.D.Calls.base c.args.disk.now) _ _ did
+    (g.D.Calls.did_both c.args.disk.now c.args.desk.now c.loop-part.disk
     c.loop-part.desk c.read.new.self c.read.new.desk) yielded c.next.new.self c.in-Some.part
     c.loop-part.at c.args.count c.loop-part.room room c.read.new.out c.in-Err.fault before.told
-    c.in-Err.ensures.did in
-    subst (λ parts. ReadsRange did parts c.args.count room (Err c.in-Err.fault)) split stops
+    (rw before.base at c.in-Err.ensures.did) in
+    subst (λ parts. ReadsRange (g.D.Calls.base c.args.disk.now) did parts c.args.count room (Err c.in-Err.fault))
+    split stops

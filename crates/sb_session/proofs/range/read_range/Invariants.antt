@@ -8,10 +8,11 @@ use Rattle.sb_session.proofs.range.read_range.Given as goal
 abbrev pub invariant-loop-part : goal.invariant-loop-part
 invariant-loop-part g l = record {
   ready : g.D.Calls.ready l.disk l.desk;
-  told : ReadsRange (g.D.Calls.did l.fn.disk l.fn.desk l.disk l.desk) l.yielded l.at l.room (Ok tt);
-  split : l.yielded ++ l.part-iterator ≡ parts_of (g.D.Calls.geometry l.fn.disk).block_size l.fn.offset
+  told : ReadsRange (g.D.Calls.base l.fn.disk) (g.D.Calls.did l.fn.disk l.fn.desk l.disk l.desk) l.yielded l.at l.room
+      (Ok tt);
+  split : l.yielded ++ l.part-iterator ≡ parts_of (g.D.Calls.base l.fn.disk).geometry.block_size l.fn.offset
       (l.fn.offset + l.fn.count);
   at : l.at ≡ sum_by (λ (part : Part). part.length) l.yielded;
-  geometry : g.D.Calls.geometry l.disk ≡ g.D.Calls.geometry l.fn.disk;
+  base : g.D.Calls.base l.disk ≡ g.D.Calls.base l.fn.disk;
   length : length l.room ≡ length l.fn.room;
 }

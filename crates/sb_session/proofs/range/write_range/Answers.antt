@@ -10,11 +10,12 @@ loop-part-init g c =
     let to = c.args.offset + length c.args.payload.now in
     record {
       ready = c.requires.ready;
-      told = writes_none _ c.args.payload.now (g.D.Calls.did_nothing c.args.disk.now c.args.desk.now);
+      told = writes_none (g.D.Calls.base c.args.disk.now) _ c.args.payload.now
+          (g.D.Calls.did_nothing c.args.disk.now c.args.desk.now);
       split = c.into_iter-part-iterator.ensures.into_iter_gives ∙ c.parts-part-items.ensures.parts
           ∙ ap (λ (geometry : Geometry). parts_of geometry.block_size c.args.offset to) c.geometry-geometry.ensures;
       at = refl;
-      geometry = refl;
+      base = refl;
     }
 
 pub loop-part-preserved : goal.loop-part-preserved
@@ -26,12 +27,13 @@ loop-part-preserved g c =
     let split = ap (λ parts. yielded ++ parts) (sym c.in-Some.ensures.steps) ∙ before.split in
     record {
       ready = more.ready;
-      told = writes_more _ _ _ (g.D.Calls.did_both c.args.disk.now c.args.desk.now c.loop-part.disk
+      told = writes_more (g.D.Calls.base c.args.disk.now) _ _ _
+          (g.D.Calls.did_both c.args.disk.now c.args.desk.now c.loop-part.disk
           c.loop-part.desk c.write.new.self c.write.new.desk)
-          yielded part c.loop-part.at c.args.payload.now before.at before.told more.did;
+          yielded part c.loop-part.at c.args.payload.now before.at before.told (rw before.base at more.did);
       split = append_assoc yielded (part ∷ []) c.next.new.self ∙ split;
       at = length_more yielded part c.loop-part.at before.at;
-      geometry = more.geometry ∙ before.geometry;
+      base = more.base ∙ before.base;
     }
 
 pub returns-in-Err-clause-told : goal.returns-in-Err-clause-told
@@ -40,7 +42,10 @@ returns-in-Err-clause-told g c =
     let yielded = c.loop-part.yielded in
     let did = g.D.Calls.did c.args.disk.now c.args.desk.now c.write.new.self c.write.new.desk in
     let split = ap (λ parts. yielded ++ parts) (sym c.in-Some.ensures.steps) ∙ before.split in
-    let stops = writes_stop _ _ did (g.D.Calls.did_both c.args.disk.now c.args.desk.now c.loop-part.disk
+    let stops = writes_stop (g.D.Calls.base c.args.disk.now) _ _ did
+    (g.D.Calls.did_both c.args.disk.now c.args.desk.now c.loop-part.disk
     c.loop-part.desk c.write.new.self c.write.new.desk)
-    yielded c.next.new.self c.in-Some.part c.args.payload.now [] c.in-Err.fault before.told c.in-Err.ensures.did in
-    subst (λ parts. WritesRange did parts c.args.payload.now (Err c.in-Err.fault)) split stops
+    yielded c.next.new.self c.in-Some.part c.args.payload.now [] c.in-Err.fault before.told
+    (rw before.base at c.in-Err.ensures.did) in
+    subst (λ parts. WritesRange (g.D.Calls.base c.args.disk.now) did parts c.args.payload.now (Err c.in-Err.fault))
+    split stops

@@ -8,7 +8,7 @@ loop-count-init g c = record {
   served = serves_nothing _ _ _ _ (g.D.Calls.did_nothing c.args.disk.now c.args.desk.now);
   source = omega arith;
   sink = omega arith;
-  geometry = refl;
+  base = refl;
   length = refl;
 }
 
@@ -16,7 +16,7 @@ pub loop-count-preserved : goal.loop-count-preserved
 loop-count-preserved g c =
     let before = c.loop-count.invariant in
     let more = c.in-Ok.ensures in
-    let one = rw before.geometry at more.told in
+    let one = rw before.base at more.told in
     record {
       ready = more.ready;
       served = serves_both _ _ _ _ _ _ _ _ _ _ _ _
@@ -24,14 +24,14 @@ loop-count-preserved g c =
           c.turn.new.disk c.turn.new.desk) before.served one;
       source = omega (arith, before.source, more.read_cause.later);
       sink = omega (arith, before.sink, more.write_cause.later);
-      geometry = more.geometry ∙ before.geometry;
+      base = more.base ∙ before.base;
       length = more.length ∙ before.length;
     }
 
 pub returns-in-Err-clause-told : goal.returns-in-Err-clause-told
 returns-in-Err-clause-told g c =
     let before = c.loop-count.invariant in
-    let more = rw before.geometry at c.in-Err.ensures.told in
+    let more = rw before.base at c.in-Err.ensures.told in
     record {
       n = c.loop-count._count + more.n;
       within = omega (arith, more.within, c.loop-count-test.true);

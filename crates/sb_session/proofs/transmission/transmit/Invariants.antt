@@ -6,10 +6,10 @@ use Rattle.sb_session.proofs.transmission.transmit.Given as goal
 abbrev pub invariant-loop-count : goal.invariant-loop-count
 invariant-loop-count g l = record {
   ready : g.D.Calls.ready l.disk l.desk;
-  served : Serves (g.D.Calls.geometry l.fn.disk) (g.R.Source.left l.fn.source) (g.R.Source.left l.source)
+  served : Serves (g.D.Calls.base l.fn.disk) (g.R.Source.left l.fn.source) (g.R.Source.left l.source)
       (g.S.Sink.held l.fn.sink) (g.S.Sink.held l.sink) (g.D.Calls.did l.fn.disk l.fn.desk l.disk l.desk) l._count;
   source : g.R.Source.faults l.fn.source ≤ g.R.Source.faults l.source;
   sink : g.S.Sink.faults l.fn.sink ≤ g.S.Sink.faults l.sink;
-  geometry : g.D.Calls.geometry l.disk ≡ g.D.Calls.geometry l.fn.disk;
+  base : g.D.Calls.base l.disk ≡ g.D.Calls.base l.fn.disk;
   length : length l.room ≡ length l.fn.room;
 }

@@ -4,6 +4,7 @@ use Rattle.sb_base.specs.declared.geometry.Geometry.{Geometry}
 use Rattle.sb_base.specs.declared.entry.EntryKind.TheVariants as kind
 use Rattle.sb_core.specs.Steps.{flush_step_entry}
 use Rattle.sb_core.specs.Progress.{is_idle}
+use Rattle.sb_crew.specs.Bases.{base_of}
 use Rattle.sb_crew.specs.Outcomes.{Outcome, FlushEnded}
 use Rattle.sb_crew.proofs.Asking.{ahead}
 use Rattle.sb_crew.proofs.Pausing.{pause_reads_nothing}
@@ -118,7 +119,8 @@ returns-in_err-now-in-Put-clause-did g c =
           met = ap (λ (os : List Outcome). FlushEnded mark ∷ os) ended.ends.0;
           cause = ended.ends.1;
         },
-        put_reads_nothing c.in_err-now-in-Put.field-0.0 _ _ _ c.in_err-now-in-Put.ensures.did.cause,
+        put_reads_nothing (base_of c.ask_flush.new.self.core) c.in_err-now-in-Put.field-0.0 _ _ _
+            c.in_err-now-in-Put.ensures.did.cause,
       );
       asks = ended.asks;
     }

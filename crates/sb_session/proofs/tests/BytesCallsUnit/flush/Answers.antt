@@ -3,6 +3,7 @@ use Rattle.sb_base.specs.declared.entry.EntryKind.TheVariants as kind
 use Rattle.sb_base.specs.declared.entry.Shown.TheVariants as shown
 use Rattle.sb_world.specs.declared.link.Call.TheVariants as call
 use Rattle.sb_world.specs.declared.link.GetReply.TheVariants as get
+use Rattle.sb_crew.specs.Bases.{Base}
 use Rattle.sb_crew.specs.Outcomes.{flush_of}
 use Rattle.sb_crew.proofs.Requesting.{fails_by, request_reads_nothing}
 use Rattle.sb_session.proofs.tests.BytesCallsUnit.flush.Goals as goal
@@ -20,20 +21,22 @@ returns-in-None-clause-did c = record {
 }
 
 pub returns-in-Some-clause-did : goal.returns-in-Some-clause-did
-returns-in-Some-clause-did c = record {
-  ends = (
-    0,
+returns-in-Some-clause-did c =
+    let base : Base = record { geometry = c.args.self.now.geometry; settings = c.args.self.now.settings } in
     record {
-      missing = flush_of 0;
-      some = omega arith;
-      met = refl;
-      cause = fails_by c.in-Some.fault c.call_fault.result _ [] _ [] [] c.call_fault.ensures tt refl;
-    },
-    request_reads_nothing c.in-Some.fault c.call_fault.result c.call_fault.ensures,
-  );
-  entries = record { pass = 1; reading = 0; kind = kind.GetEnd 0 shown.Failed None false } ∷ [];
-  calls = call.Get [] None (get.Fault c.in-Some.fault) ∷ [];
-  ticks = [];
-  done = tt;
-  asks = record { asked = tt };
-}
+      ends = (
+        0,
+        record {
+          missing = flush_of 0;
+          some = omega arith;
+          met = refl;
+          cause = fails_by base c.in-Some.fault c.call_fault.result _ [] _ [] [] c.call_fault.ensures tt refl;
+        },
+        request_reads_nothing c.in-Some.fault c.call_fault.result c.call_fault.ensures,
+      );
+      entries = record { pass = 1; reading = 0; kind = kind.GetEnd 0 shown.Failed None false } ∷ [];
+      calls = call.Get [] None (get.Fault c.in-Some.fault) ∷ [];
+      ticks = [];
+      done = tt;
+      asks = record { asked = tt };
+    }
