@@ -2,3 +2,4 @@ pub mod Filled
 pub mod RequestParts
 pub mod OptionParts
 pub mod OneForm
+pub mod Cuts

@@ -36,7 +36,8 @@ head_stops a b c (Cut got) first more =
 head_stops a b c (BadMagic magic) first more = absurd more
 head_stops a b c (BadFlags flags) first more = absurd more
 head_stops a b c (TooBig of) first more = absurd more
-head_stops a b c ReadFault first more = (option_magic_bytes ++ more.0, takes_both first more.1, tt)
+head_stops a b c ReadFault first more =
+    (option_magic_bytes ++ more.0, takes_both first more.1, inr (inl (more.0, refl, more.2)))
 head_stops a b c WriteFault first more = absurd more
 
 -- the magic and the head, and an end inside the payload or before it
@@ -66,5 +67,9 @@ payload_stops a b c d asked room (TooBig of) first then more = (
       (takes_both then.0 more.0)),
   (asked, then.1, refl, more.1, more.2),
 )
-payload_stops a b c d asked room ReadFault first then more = (_, takes_both first (takes_both then.0 more.1), tt)
+payload_stops a b c d asked room ReadFault first then more = (
+  _,
+  takes_both first (takes_both then.0 more.1),
+  inr (inr (asked, more.0, then.1, refl, more.2, more.3)),
+)
 payload_stops a b c d asked room WriteFault first then more = absurd more

@@ -36,7 +36,8 @@ fields_stop a b c (Cut got) first more =
 fields_stop a b c (BadMagic magic) first more = absurd more
 fields_stop a b c (BadFlags flags) first more = absurd more
 fields_stop a b c (TooBig of) first more = absurd more
-fields_stop a b c ReadFault first more = (magic_bytes ++ more.0, takes_both first more.1, tt)
+fields_stop a b c ReadFault first more =
+    (magic_bytes ++ more.0, takes_both first more.1, inr (inl (more.0, refl, more.2)))
 fields_stop a b c WriteFault first more = absurd more
 
 -- the magic and the fields, and an end inside the payload or before it
@@ -65,5 +66,9 @@ payload_stops a b c d w room (TooBig of) first then more = (
       (takes_both then.0 more.0)),
   (w, then.1, refl, more.1, more.2, more.3),
 )
-payload_stops a b c d w room ReadFault first then more = (_, takes_both first (takes_both then.0 more.1), tt)
+payload_stops a b c d w room ReadFault first then more = (
+  _,
+  takes_both first (takes_both then.0 more.1),
+  inr (inr (w, more.0, then.1, refl, more.2, more.3)),
+)
 payload_stops a b c d w room WriteFault first then more = absurd more

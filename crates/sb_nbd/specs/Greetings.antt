@@ -16,7 +16,7 @@ abbrev pub StopsFlags : Option (List ℕ) → List ℕ → NbdEnd → Type 0
 StopsFlags now bytes Ended = (bytes ≡ []) × IsAtEnd now
 StopsFlags now bytes (Cut got) = (length bytes ≡ got) × (0 < got) × (got < 4) × IsAtEnd now
 StopsFlags now bytes (BadFlags flags) = (bytes ≡ to_be_bytes w32 flags) × (flags < 2 ^ 32) × (MAX_FLAGS < flags)
-StopsFlags now bytes ReadFault = Unit {0}
+StopsFlags now bytes ReadFault = length bytes < 4
 StopsFlags now bytes end = ⊥
 
 -- the client's flags were taken, or the bytes that end the reading

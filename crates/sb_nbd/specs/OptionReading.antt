@@ -26,7 +26,7 @@ StopsOption now bytes (BadMagic magic) = (bytes ≡ to_be_bytes w64 magic) × (m
 StopsOption now bytes (BadFlags flags) = ⊥
 StopsOption now bytes (TooBig length) = (a : Asked) × options.FitsHead a
     × (bytes ≡ options.option_magic_bytes ++ options.head_bytes a) × (a.length ≡ length) × (MAX_OPTION < length)
-StopsOption now bytes ReadFault = Unit {0}
+StopsOption now bytes ReadFault = IsCutOption bytes
 StopsOption now bytes WriteFault = ⊥
 
 -- an option of this head, with its payload at the front of a buffer
@@ -48,7 +48,7 @@ ReadsOptionMagic before now (Err end) = (bytes : List ℕ) × Takes before now b
 abbrev pub ReadsHead : Option (List ℕ) → Option (List ℕ) → Result Asked NbdEnd → Type 0
 ReadsHead before now (Ok a) = Takes before now (options.head_bytes a) × options.FitsHead a
 ReadsHead before now (Err (Cut got)) = (bytes : List ℕ) × Takes before now bytes × IsShort now 8 bytes 8 got
-ReadsHead before now (Err ReadFault) = (bytes : List ℕ) × Takes before now bytes
+ReadsHead before now (Err ReadFault) = (bytes : List ℕ) × Takes before now bytes × (length bytes < 8)
 ReadsHead before now (Err end) = ⊥
 
 -- the payload behind magic and head was taken, or fewer bytes; it is taken only where it isn't too long
@@ -58,5 +58,6 @@ ReadsOptionPayload before now a (Err (Cut got)) room =
     (bytes : List ℕ) × Takes before now bytes × IsShort now 16 bytes a.length got × (a.length ≤ MAX_OPTION)
 ReadsOptionPayload before now a (Err (TooBig length)) room =
     Takes before now [] × (a.length ≡ length) × (MAX_OPTION < length)
-ReadsOptionPayload before now a (Err ReadFault) room = (bytes : List ℕ) × Takes before now bytes
+ReadsOptionPayload before now a (Err ReadFault) room =
+    (bytes : List ℕ) × Takes before now bytes × (length bytes < a.length) × (a.length ≤ MAX_OPTION)
 ReadsOptionPayload before now a (Err end) room = ⊥

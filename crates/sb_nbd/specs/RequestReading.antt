@@ -28,7 +28,7 @@ StopsRequest now bytes (BadMagic magic) = (bytes ≡ to_be_bytes w32 magic) × (
 StopsRequest now bytes (BadFlags flags) = ⊥
 StopsRequest now bytes (TooBig length) = (w : Wanted) × FitsFields w
     × (bytes ≡ magic_bytes ++ fields_bytes w) × (w.kind ≡ WRITE) × (w.length ≡ length) × (MAX_PAYLOAD < length)
-StopsRequest now bytes ReadFault = Unit {0}
+StopsRequest now bytes ReadFault = IsCutRequest bytes
 StopsRequest now bytes WriteFault = ⊥
 
 -- a request of these fields, with its payload at the front of a buffer
@@ -50,7 +50,7 @@ ReadsMagic before now (Err end) = (bytes : List ℕ) × Takes before now bytes �
 abbrev pub ReadsFields : Option (List ℕ) → Option (List ℕ) → Result Wanted NbdEnd → Type 0
 ReadsFields before now (Ok w) = Takes before now (fields_bytes w) × FitsFields w
 ReadsFields before now (Err (Cut got)) = (bytes : List ℕ) × Takes before now bytes × IsShort now 4 bytes 24 got
-ReadsFields before now (Err ReadFault) = (bytes : List ℕ) × Takes before now bytes
+ReadsFields before now (Err ReadFault) = (bytes : List ℕ) × Takes before now bytes × (length bytes < 24)
 ReadsFields before now (Err end) = ⊥
 
 -- the payload behind magic and fields was taken, or fewer bytes; it is taken only where it isn't too long
@@ -62,5 +62,6 @@ ReadsPayload before now w (Err (Cut got)) room =
     × (payload_length w ≤ MAX_PAYLOAD)
 ReadsPayload before now w (Err (TooBig length)) room =
     Takes before now [] × (w.kind ≡ WRITE) × (w.length ≡ length) × (MAX_PAYLOAD < length)
-ReadsPayload before now w (Err ReadFault) room = (bytes : List ℕ) × Takes before now bytes
+ReadsPayload before now w (Err ReadFault) room =
+    (bytes : List ℕ) × Takes before now bytes × (length bytes < payload_length w) × (payload_length w ≤ MAX_PAYLOAD)
 ReadsPayload before now w (Err end) room = ⊥

@@ -13,7 +13,7 @@ pub enum NbdEnd {
     BadFlags(u32),
     /// More bytes are announced than such a message may carry. They weren't taken.
     TooBig { length: u32 },
-    /// The source has failed.
+    /// The source has failed before a message was whole.
     ReadFault,
     /// The sink has failed.
     WriteFault,

@@ -1,4 +1,5 @@
-use Rattle.std.proofs.Common.{rules, subst, sym, arith}
+use Rattle.std.proofs.Common.{rules, subst, sym, arith, [], ◌++◌, take}
+use Rattle.std.proofs.lemmas.List.{length-append, length-take-le}
 use Rattle.std.proofs.lemmas.Slice.{overwrites}
 use Rattle.sb_world.specs.Streams.{Takes}
 use Rattle.sb_world.proofs.Streaming.{takes_both}
@@ -20,4 +21,14 @@ loop-n-preserved g c =
     }
 
 pub returns-in-Err-clause-told : goal.returns-in-Err-clause-told
-returns-in-Err-clause-told g c = (_, takes_both c.loop-n.invariant.taken c.in-Err.ensures.told)
+returns-in-Err-clause-told g c = (
+  take c.loop-n.n c.loop-n.out ++ [],
+  takes_both c.loop-n.invariant.taken c.in-Err.ensures.told,
+  omega (
+    arith,
+    length-append (take c.loop-n.n c.loop-n.out) [],
+    length-take-le c.loop-n.n c.loop-n.out c.loop-n.invariant.within,
+    c.loop-n.invariant.length,
+    c.loop-n-test.true,
+  ),
+)
