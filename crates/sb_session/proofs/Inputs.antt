@@ -1,6 +1,6 @@
 -- An input is read in one way.
-use Rattle.std.proofs.Common.{ℕ, ◌≡◌, ◌≤◌, ◌<◌, ◌+◌, ◌∙◌, ◌^◌, List, [], ◌∷◌, ◌++◌, Option, Some, length, true, false}
-use Rattle.std.proofs.Common.{append_assoc, append-nil, ap, sym, subst, refl, arith, inl, inr, nat_eq, if◌then◌else◌}
+use Rattle.std.proofs.Common.{ℕ, ◌≡◌, ◌<◌, ◌∙◌, ◌^◌, List, [], ◌∷◌, ◌++◌, Option, Some, length, true, false}
+use Rattle.std.proofs.Common.{append_assoc, append-nil, ap, sym, subst, refl, arith, nat_eq, if◌then◌else◌}
 use Rattle.std.specs.Int.{w32, to_be_bytes}
 use Rattle.std.specs.List.{AllByRecursion}
 use Rattle.std.proofs.lemmas.List.{length-append}
@@ -11,10 +11,11 @@ use Rattle.sb_nbd.specs.declared.wanted.Wanted.{Wanted}
 use Rattle.sb_nbd.specs.declared.request.TheConstants.{REQUEST_MAGIC}
 use Rattle.sb_nbd.specs.declared.end.NbdEnd.{NbdEnd}
 use Rattle.sb_nbd.specs.declared.end.NbdEnd.TheVariants as nbd
-use Rattle.sb_nbd.specs.Requests.{magic_bytes, fields_bytes, payload_length, Request, IsRequest, request_bytes}
+use Rattle.sb_nbd.specs.Requests.{magic_bytes, fields_bytes, Request, IsRequest, request_bytes}
 use Rattle.sb_nbd.specs.RequestReading.{IsCutRequest, StopsRequest}
 use Rattle.sb_nbd.proofs.OneForm.{one_request, split_same, same_4, regrouped, same_wanted_first}
-use Rattle.sb_nbd.proofs.RequestParts.{length-magic_bytes, length-fields_bytes}
+use Rattle.sb_nbd.proofs.RequestParts.{length-magic_bytes}
+use Rattle.sb_nbd.proofs.Cuts.{long, no_cut}
 use Rattle.sb_crew.specs.Bases.{Base}
 use Rattle.sb_session.specs.declared.end.SessionEnd.{SessionEnd}
 use Rattle.sb_session.specs.declared.end.SessionEnd.TheVariants.{Disconnected, Ended, Refused, ReadFault, WriteFault}
@@ -48,31 +49,6 @@ transcript_goes_on base [] answered = tt
 transcript_goes_on base (x ∷ xs) answered =
     going_on_join (requests_of xs) (x.request ∷ []) (transcript_goes_on base xs answered.1)
     (record { request = answered.0.request; goes_on = answered.0.goes_on }, tt)
-
-long : (r : Request) (x : List ℕ) → 28 + length r.payload ≤ length (request_bytes r ++ x)
-long r x = omega (
-  arith,
-  ap length (regrouped r x),
-  length-append magic_bytes (fields_bytes r.wanted ++ (r.payload ++ x)),
-  length-append (fields_bytes r.wanted) (r.payload ++ x),
-  length-append r.payload x,
-  length-magic_bytes,
-  length-fields_bytes r.wanted,
-)
-
-no_cut : (r : Request) (x : List ℕ) → IsRequest r → IsCutRequest (request_bytes r ++ x) → ⊥
-no_cut r x is (inl short) = omega (arith, short, long r x)
-no_cut r x is (inr (inl h)) = omega (
-  arith,
-  ap length h.1,
-  length-append magic_bytes h.0,
-  length-magic_bytes,
-  h.2,
-  long r x,
-)
-no_cut r x is (inr (inr h)) =
-    let same = same_wanted_first r h.0 x h.1 h.2 is h.3 in
-    omega (arith, ap length same.1, length-append r.payload x, is.payload, ap payload_length same.0, h.4)
 
 magic_differs : (magic : ℕ) (r : Request) (x after : List ℕ) → magic < 2 ^ 32
     → request_bytes r ++ x ≡ to_be_bytes w32 magic ++ after → magic ≡ REQUEST_MAGIC

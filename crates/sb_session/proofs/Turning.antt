@@ -27,7 +27,7 @@ stops_by now bytes (nbd.Cut got) h = (nbd.Cut got, h, refl)
 stops_by now bytes (nbd.BadMagic magic) h = (nbd.BadMagic magic, h, refl)
 stops_by now bytes (nbd.BadFlags flags) h = absurd h
 stops_by now bytes (nbd.TooBig size) h = (nbd.TooBig size, h, refl)
-stops_by now bytes nbd.ReadFault h = tt
+stops_by now bytes nbd.ReadFault h = h
 stops_by now bytes nbd.WriteFault h = absurd h
 
 end_unspent : (end : NbdEnd) → end_of end ≢ Spent

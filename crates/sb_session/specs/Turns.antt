@@ -6,7 +6,7 @@ use Rattle.sb_world.specs.declared.clock.Tick.{Tick}
 use Rattle.sb_world.specs.declared.link.Call.{Call}
 use Rattle.sb_nbd.specs.declared.end.NbdEnd.{NbdEnd}
 use Rattle.sb_nbd.specs.Requests.{Request, request_bytes}
-use Rattle.sb_nbd.specs.RequestReading.{StopsRequest}
+use Rattle.sb_nbd.specs.RequestReading.{IsCutRequest, StopsRequest}
 use Rattle.sb_crew.specs.Bases.{Base}
 use Rattle.sb_session.specs.declared.end.SessionEnd.{SessionEnd}
 use Rattle.sb_session.specs.declared.end.SessionEnd.TheVariants.{Disconnected, Ended, Refused, ReadFault, WriteFault}
@@ -22,7 +22,7 @@ abbrev pub StopsBy : Option (List ℕ) → List ℕ → SessionEnd → Type 0
 StopsBy now tail Disconnected = (r : Request) × IsDisc r × (tail ≡ request_bytes r)
 StopsBy now tail Ended = (tail ≡ []) × IsAtEnd now
 StopsBy now tail Refused = (reading : NbdEnd) × StopsRequest now tail reading × (Refused ≡ end_of reading)
-StopsBy now tail ReadFault = Unit {0}
+StopsBy now tail ReadFault = IsCutRequest tail
 StopsBy now tail WriteFault = tail ≡ []
 StopsBy now tail Spent = tail ≡ []
 
