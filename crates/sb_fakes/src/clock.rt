@@ -1,6 +1,6 @@
 //! A clock that its pauses move.
 
-ghost use Rattle.std.specs.Prelude.{◌≡◌, ◌≤◌, ◌^◌, Some, []};
+ghost use Rattle.std.specs.Prelude.{◌≡◌, ◌≤◌, ◌^◌, Some, None, [], reverse, MatchOption};
 
 use crate::kept::Kept;
 use sb_world::{Clock, Tick};
@@ -23,6 +23,8 @@ pub struct HandClock {
 }
 
 impl HandClock {
+    ghost use Rattle.sb_fakes.specs.Told.{ticks_of};
+
     /// A clock at a reading in milliseconds, whose moment in seconds since 1970 stands still. A pause moves the
     /// reading, at most to 2^62; that of a stalled clock stands still too.
     pub fn new(alloc: Global, reading: u64, moment: i64, stalled: bool) -> HandClock
@@ -40,6 +42,14 @@ impl HandClock {
             ticks: Kept::new(alloc),
             moments: Kept::new(alloc),
         }
+    }
+
+    /// Its readings and pauses so far, the oldest first, and none after a growth was refused.
+    pub fn ticks(&self) -> Option<&[Tick]>
+        ensures { MatchOption result (ticks_of self.now ≡ None)
+            (λ ticks. ticks_of self.now ≡ Some (reverse ticks.now)) }
+    {
+        self.ticks.items()
     }
 }
 

@@ -1,6 +1,6 @@
 //! A list that a fake tells.
 
-ghost use Rattle.std.specs.Prelude.{◌≡◌, Some, None, [], ◌∷◌};
+ghost use Rattle.std.specs.Prelude.{◌≡◌, Some, None, [], ◌∷◌, reverse, MatchOption};
 ghost use Rattle.sb_world.specs.Told.{Gains};
 
 use std::alloc::Global;
@@ -38,6 +38,17 @@ impl<X: Drop> Kept<X> {
     {
         if self.whole && self.items.push(item).is_err() {
             self.whole = false;
+        }
+    }
+
+    /// The items, the oldest first, and none after a growth was refused.
+    pub(crate) fn items(&self) -> Option<&[X]>
+        ensures { MatchOption result (self.now ≡ None) (λ items. self.now ≡ Some (reverse items.now)) }
+    {
+        if self.whole {
+            Some(self.items.as_slice())
+        } else {
+            None
         }
     }
 

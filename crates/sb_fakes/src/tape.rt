@@ -1,6 +1,6 @@
 //! A tape in memory.
 
-ghost use Rattle.std.specs.Prelude.{◌≡◌, Some, []};
+ghost use Rattle.std.specs.Prelude.{◌≡◌, Some, None, [], reverse, MatchOption};
 
 use crate::kept::Kept;
 use sb_base::{Entry, Line};
@@ -15,6 +15,8 @@ pub struct RecordTape {
 }
 
 impl RecordTape {
+    ghost use Rattle.sb_fakes.specs.Told.{entries_of};
+
     /// A tape with nothing on it.
     pub fn new(alloc: Global) -> RecordTape
         ensures { result.entries ≡ Some [] }
@@ -23,6 +25,14 @@ impl RecordTape {
             alloc,
             entries: Kept::new(alloc),
         }
+    }
+
+    /// The entries on it, the oldest first, and none after a growth was refused.
+    pub fn entries(&self) -> Option<&[Entry]>
+        ensures { MatchOption result (entries_of self.now ≡ None)
+            (λ entries. entries_of self.now ≡ Some (reverse entries.now)) }
+    {
+        self.entries.items()
     }
 }
 

@@ -1,6 +1,6 @@
 //! A store in memory whose GETs may show older versions.
 
-ghost use Rattle.std.specs.Prelude.{◌≡◌, ◌≢◌, Some, None, [], ◌∷◌};
+ghost use Rattle.std.specs.Prelude.{◌≡◌, ◌≢◌, Some, None, [], ◌∷◌, OnOk, OnErr};
 ghost use Rattle.sb_world.specs.Told.{Gains, CountsFaults};
 ghost use Rattle.sb_world.specs.Calls.{get_reply, fault_of, HasFailed, IsAsked};
 ghost use Rattle.sb_world.specs.declared.link.Call.TheVariants as call;
@@ -60,6 +60,18 @@ impl TimedStore {
             log: Log::new(alloc),
             faults: Faults::new(fails),
         }
+    }
+
+    /// Chooses what a GET shows from now on, whatever was chosen for it before. An `Err` changes nothing.
+    pub fn choose(&mut self, show: Show) -> Result<(), AllocError>
+        ensures chosen { OnOk result (self.new.shows.items ≡ show ∷ self.old.shows.items) }
+        ensures err { OnErr result (self.new.shows.items ≡ self.old.shows.items) }
+        ensures content { (self.new.start ≡ self.old.start) × (self.new.histories ≡ self.old.histories) }
+        ensures calls { (self.new.gets ≡ self.old.gets) × (self.new.log ≡ self.old.log) }
+        ensures faults { self.new.faults ≡ self.old.faults }
+    {
+        self.shows.insert(0, show)?;
+        Ok(())
     }
 
     /// Answers a GET.
