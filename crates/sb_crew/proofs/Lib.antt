@@ -1,4 +1,5 @@
 pub mod Asking
+pub mod Measures
 pub mod OutcomeLemmas
 pub mod Pausing
 pub mod Requesting

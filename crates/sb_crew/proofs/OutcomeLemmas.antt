@@ -4,6 +4,7 @@ use Rattle.std.specs.List.{AllByRecursion}
 use Rattle.sb_base.specs.declared.part.Part.{Part}
 use Rattle.sb_base.specs.declared.entry.Entry.{Entry}
 use Rattle.sb_world.specs.declared.clock.Tick.{Tick}
+use Rattle.sb_world.specs.declared.clock.Tick.TheVariants as tick
 use Rattle.sb_world.specs.declared.link.Call.{Call}
 use Rattle.sb_world.specs.declared.link.LinkFault.{LinkFault}
 use Rattle.sb_world.specs.declared.link.LinkFault.TheVariants as link
@@ -11,7 +12,8 @@ use Rattle.sb_crew.specs.Bases.{Base}
 use Rattle.sb_crew.specs.declared.calls.CallFault.{CallFault}
 use Rattle.sb_crew.specs.declared.calls.CallFault.TheVariants.{StoreFault, Memory, StaleRead, ClockStalled}
 use Rattle.sb_crew.specs.Outcomes.{outcomes_of, bytes_read, blocks_asked, outcome_of, bytes_of, asked_of, IsBlockOf}
-use Rattle.sb_crew.specs.Outcomes.{AsksOnly, FailsBy, IsStale, IsStalled, HasCause}
+use Rattle.sb_crew.specs.Outcomes.{AsksOnly, FailsBy, IsStale, IsStalled, HasCause, PausesReach, ReachesBefore}
+use Rattle.sb_crew.specs.Outcomes.{ReachesBut}
 
 -- the outcomes of two runs
 pub outcomes_join : (ys xs : List Entry) → outcomes_of (ys ++ xs) ≡ outcomes_of ys ++ outcomes_of xs
@@ -74,3 +76,31 @@ cause_stays base (StaleRead block expected shown begun) xs ys us vs ss ts cause 
     stale_still base block expected shown begun xs ys cause
 cause_stays base (ClockStalled before asked after) xs ys us vs ss ts cause =
     stalled_still before asked after xs ys ss ts cause
+
+-- pauses that reach, behind others that do
+pub reaches_join : (ss ts : List Tick) → PausesReach ss → PausesReach ts → PausesReach (ts ++ ss)
+reaches_join ss [] first second = first
+reaches_join ss (tick.Paused millis ∷ ts) first second = absurd second
+reaches_join [] (tick.Taken after ∷ []) first second = tt
+reaches_join (tick.Taken before ∷ ss) (tick.Taken after ∷ []) first second = first
+reaches_join (tick.Paused millis ∷ ss) (tick.Taken after ∷ []) first second = absurd first
+reaches_join ss (tick.Taken after ∷ tick.Taken before ∷ ts) first second =
+    reaches_join ss (tick.Taken before ∷ ts) first second
+reaches_join ss (tick.Taken after ∷ tick.Paused millis ∷ []) first second = absurd second
+reaches_join ss (tick.Taken after ∷ tick.Paused millis ∷ tick.Paused other ∷ ts) first second = absurd second
+reaches_join ss (tick.Taken after ∷ tick.Paused millis ∷ tick.Taken before ∷ ts) first second =
+    (second.0, reaches_join ss (tick.Taken before ∷ ts) first second.1)
+
+before_join : (ss ts : List Tick) → PausesReach ss → ReachesBefore ts → ReachesBefore (ts ++ ss)
+before_join ss [] first second = absurd second
+before_join ss (tick.Paused millis ∷ ts) first second = absurd second
+before_join ss (tick.Taken after ∷ []) first second = absurd second
+before_join ss (tick.Taken after ∷ tick.Taken before ∷ ts) first second = absurd second
+before_join ss (tick.Taken after ∷ tick.Paused millis ∷ ts) first second = reaches_join ss ts first second
+
+pub reaches_but_join : (fault : CallFault) (ss ts : List Tick) → PausesReach ss → ReachesBut fault ts
+    → ReachesBut fault (ts ++ ss)
+reaches_but_join (StoreFault status) ss ts first second = reaches_join ss ts first second
+reaches_but_join Memory ss ts first second = reaches_join ss ts first second
+reaches_but_join (StaleRead block expected shown begun) ss ts first second = reaches_join ss ts first second
+reaches_but_join (ClockStalled before asked after) ss ts first second = before_join ss ts first second

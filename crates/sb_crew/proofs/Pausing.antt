@@ -9,9 +9,9 @@ use Rattle.sb_world.specs.declared.link.Call.{Call}
 use Rattle.sb_history.specs.ClockTrace.{PauseTicks}
 use Rattle.sb_crew.specs.Bases.{Base}
 use Rattle.sb_crew.specs.declared.calls.CallFault.{CallFault}
-use Rattle.sb_crew.specs.Outcomes.{PausesFor, HasCause, IsOfNoRead}
+use Rattle.sb_crew.specs.Outcomes.{PausesFor, HasCause, ReachesBut, IsOfNoRead}
 use Rattle.sb_crew.specs.Runs.{next_ticks}
-use Rattle.sb_crew.specs.Turns.{next_of, HasCauseIf, Pauses, PauseEnds}
+use Rattle.sb_crew.specs.Turns.{next_of, HasCauseIf, KeepsReaching, Pauses, PauseEnds}
 
 -- the ticks of a pause in a trace, the next reading, and the cause where it comes short
 pub record IsPaused (clock clock' : Option (List Tick)) (now millis : ℕ) (result : Result ℕ CallFault) : Type 0 where
@@ -21,6 +21,7 @@ pub record IsPaused (clock clock' : Option (List Tick)) (now millis : ℕ) (resu
   pub cause : (base : Base) (entry : Entry) (entries : List Entry) (calls : List Call) (ticks : List Tick)
       → PausesFor now millis entry.kind
       → HasCauseIf base (entry ∷ entries) calls (after ++ tick.Taken now ∷ ticks) result
+  pub reaches : KeepsReaching now after result
 
 pub is_paused : (clock clock' : Option (List Tick)) (now millis : ℕ) (result : Result ℕ CallFault) (ticks : List Tick)
     → Gains clock clock' ticks → PauseEnds now millis ticks result → IsPaused clock clock' now millis result
@@ -29,6 +30,7 @@ is_paused clock clock' now millis (Ok next) ticks gained ends = record {
   paused = inl (refl, ends.1);
   readings = subst (Gains clock clock') ends.0 gained;
   cause = λ base entry entries calls ticks pauses. tt;
+  reaches = λ earlier reached. (ends.1, reached);
 }
 is_paused clock clock' now millis (Err fault) ticks gained ends = record {
   after = tick.Taken ends.0 ∷ tick.Paused millis ∷ [];
@@ -38,6 +40,9 @@ is_paused clock clock' now millis (Err fault) ticks gained ends = record {
       let behind = tick.Taken ends.0 ∷ tick.Paused millis ∷ tick.Taken now ∷ earlier in
       subst (λ (f : CallFault). HasCause base f (entry ∷ entries) calls behind) (sym ends.1)
       (pauses, (earlier, refl, ends.2));
+  reaches = λ earlier reached.
+      let behind = tick.Taken ends.0 ∷ tick.Paused millis ∷ tick.Taken now ∷ earlier in
+      subst (λ (f : CallFault). ReachesBut f behind) (sym ends.1) reached;
 }
 
 -- a pause doesn't fail as a read

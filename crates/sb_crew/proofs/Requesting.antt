@@ -37,11 +37,11 @@ use Rattle.sb_crew.specs.Names.{Naming, name_of}
 use Rattle.sb_crew.specs.Answers.{shown_for, fault_for, is_late}
 use Rattle.sb_crew.specs.Outcomes as outcome
 use Rattle.sb_crew.specs.Bases.{Base, base_of}
-use Rattle.sb_crew.specs.Outcomes.{IsLongExpected, HasCause, IsOfNoRead}
+use Rattle.sb_crew.specs.Outcomes.{IsLongExpected, HasCause, PausesReach, ReachesBut, IsOfNoRead}
 use Rattle.sb_crew.specs.Joins.{gains_nothing}
 use Rattle.sb_crew.specs.Runs.{next_ticks, Event}
-use Rattle.sb_crew.specs.Turns.{next_of, HasCauseIf, get_begun, get_ended, FetchDoes, Pauses, put_sent, put_ended}
-use Rattle.sb_crew.specs.Turns.{StoreDoes}
+use Rattle.sb_crew.specs.Turns.{next_of, HasCauseIf, KeepsReaching, get_begun, get_ended, FetchDoes, Pauses, put_sent}
+use Rattle.sb_crew.specs.Turns.{put_ended, StoreDoes}
 use Rattle.sb_crew.proofs.Pausing.{pause_is}
 
 abbrev begun_of : Option OpenGet → ℕ
@@ -174,6 +174,13 @@ fails_by base (link.Failed status) ended entry entries asked calls ticks is fail
 fails_by base link.Memory ended entry entries asked calls ticks is failure cause =
     subst (λ (f : CallFault). HasCause base f (entry ∷ entries) (asked ∷ calls) ticks) (sym is) (failure, cause)
 
+-- a request of the link that failed leaves no pause that came short
+pub reaches_by : (fault : LinkFault) (ended : CallFault) (ticks : List Tick) → ended ≡ fault_for fault
+    → PausesReach ticks → ReachesBut ended ticks
+reaches_by (link.Failed status) ended ticks is reached =
+    subst (λ (f : CallFault). ReachesBut f ticks) (sym is) reached
+reaches_by link.Memory ended ticks is reached = subst (λ (f : CallFault). ReachesBut f ticks) (sym is) reached
+
 -- what a GET did, by the end that the core gave its answer
 module _ {names names' : Naming} {core core' : Core} {tape tape' : Option (List Entry)}
     {clock clock' : Option (List Tick)} {log log' : Option (List Call)} {faults faults' : ℕ} where
@@ -189,11 +196,11 @@ module _ {names names' : Naming} {core core' : Core} {tape tape' : Option (List 
       → Gains between clock' (next_ticks (next_of result) ++ after)
       → HasCauseIf (base_of core) (get_ended job reading answered bytes (is_taken outcome) ∷ get_begun job ∷ [])
       (call.Get (name_of names job.block) job.verify (get_reply answered bytes) ∷ [])
-      (after ++ tick.Taken later ∷ []) result
+      (after ++ tick.Taken later ∷ []) result → KeepsReaching later after result
       → FetchDoes names names' core core' tape tape' clock clock' log log' faults faults' job result
   fetch_does {between = between} job answered bytes later reading outcome result pause after opened called counted
       took event pauses paused
-      readings cause = record {
+      readings cause reaches = record {
         got = answered;
         bytes = bytes;
         called = called;
@@ -213,6 +220,7 @@ module _ {names names' : Naming} {core core' : Core} {tape tape' : Option (List 
           readings = readings;
         };
         cause = cause;
+        reaches = reaches;
       }
 
   -- its answer was taken
@@ -228,6 +236,7 @@ module _ {names names' : Naming} {core core' : Core} {tape tape' : Option (List 
   fetch_taken job answered bytes later reading outcome next opened called counted took event answer is readings =
       fetch_does job answered bytes later reading outcome (Ok next) None [] opened called counted took event
       (taken_agrees (settings_of core).stale_limit job.begun job.expect _ (sym answer ∙ is)) refl readings tt
+      (λ earlier reached. reached)
 
   -- it failed
   pub fetch_failed : (job : GetJob) (cause : LinkFault) (fault : CallFault) (bytes : List ℕ) (later reading : ℕ)
@@ -261,6 +270,7 @@ module _ {names names' : Naming} {core core' : Core} {tape tape' : Option (List 
     cause = fails_by (base_of core) cause fault (get_ended job reading (Err cause) bytes (is_taken outcome))
         (get_begun job ∷ []) (call.Get (name_of names job.block) job.verify (get_reply (Err cause) bytes)) []
         (tick.Taken later ∷ []) is tt refl;
+    reaches = λ earlier reached. reaches_by cause fault (tick.Taken later ∷ earlier) is reached;
   }
 
   -- its answer was stale, and late
@@ -304,6 +314,7 @@ module _ {names names' : Naming} {core core' : Core} {tape tape' : Option (List 
           refl,
           other.other,
         );
+        reaches = λ earlier reached. reached;
       }
 
   -- its answer was stale, and it is asked for anew behind a pause
@@ -332,6 +343,7 @@ module _ {names names' : Naming} {core core' : Core} {tape tape' : Option (List 
       paused.paused paused.readings
       (paused.cause (base_of core) (get_ended job reading answered bytes (is_taken outcome)) (get_begun job ∷ [])
       (call.Get (name_of names job.block) job.verify (get_reply answered bytes) ∷ []) [] (ap is_taken is, refl))
+      paused.reaches
 
 -- a put that failed says its fault, as a delete or as a put
 pub put_fault : (zeros : Bool) (name : List ℕ) (meta : Option Meta) (content : List ℕ) (fault : Option LinkFault)
@@ -378,6 +390,7 @@ module _ {names names' : Naming} {core core' : Core} {tape tape' : Option (List 
       readings = readings;
     };
     cause = tt;
+    reaches = λ earlier reached. reached;
   }
 
   pub store_failed : (block : ℕ) (content : List ℕ) (cause : LinkFault) (fault : CallFault) (later reading : ℕ)
@@ -405,4 +418,5 @@ module _ {names names' : Naming} {core core' : Core} {tape tape' : Option (List 
     cause = fails_by (base_of core) cause fault (put_ended block reading (Err cause)) []
         (put_sent names block content (Err cause)) [] (tick.Taken later ∷ []) is refl
         (put_fault (is_zeros content) (name_of names block) (meta_of (Some names.meta) block) content (Some cause));
+    reaches = λ earlier reached. reaches_by cause fault (tick.Taken later ∷ earlier) is reached;
   }

@@ -39,7 +39,7 @@ use Rattle.sb_crew.specs.Names.{Naming, name_of}
 use Rattle.sb_crew.specs.Answers.{shown_for}
 use Rattle.sb_crew.specs.Outcomes as outcome
 use Rattle.sb_crew.specs.Outcomes.{Outcome, outcomes_of, outcome_of, bytes_read, bytes_of, asked_of, blocks_asked}
-use Rattle.sb_crew.specs.Outcomes.{IsBlockOf, AsksOnly, HasCause, Does, FlushBegun}
+use Rattle.sb_crew.specs.Outcomes.{IsBlockOf, AsksOnly, HasCause, PausesReach, ReachesBut, Does, FlushBegun}
 use Rattle.sb_crew.specs.Runs.{any_past, HasBegun, next_ticks, Event, EventWhere, TurnWhere, Did, DidWhere}
 use Rattle.sb_crew.specs.Turns.{SoFar, next_of, Waits, get_begun, get_ended, FetchDoes, put_sent, put_ended}
 use Rattle.sb_crew.specs.Turns.{StoreDoes}
@@ -182,6 +182,7 @@ starts {now = now} gains = record {
   done = did_begin (Some now) gains;
   met_so = refl;
   no_bytes = refl;
+  reached = tt;
   asks = record { asked = tt };
   leads = λ past. tt;
 }
@@ -240,6 +241,7 @@ module _ {Then : List Entry → Type 0} {met : List Outcome} {names names1 : Nam
     done = one_turn before (plain_turn (Some next) is did (λ past. refl) gains) refl;
     met_so = before.met_so;
     no_bytes = ap (λ bs. bs ++ []) before.no_bytes;
+    reached = before.reached;
     asks = record { asked = before.asks.asked };
     leads = λ past.
         lasts (event reading (kind.Dropped dropped) ∷ []) (before.entries ++ past) (before.leads past);
@@ -253,13 +255,18 @@ module _ {Then : List Entry → Type 0} {met : List Outcome} {names names1 : Nam
       → ((past : List Entry) → PausesAfter (geometry_of b) (settings_of b) past now of None)
       → EventWhere Then names1 names2 b c tape1 tape2 now entry
       → Does (Did names names2 a c tape tape2 log log1 faults faults1 clock clock1) parts
-      (λ entries calls ticks. (outcomes_of entries ≡ outcome_of of ++ met) × (bytes_read entries ≡ bytes_of of))
+      (λ entries calls ticks. (outcomes_of entries ≡ outcome_of of ++ met) × (bytes_read entries ≡ bytes_of of)
+      × PausesReach ticks)
   ends_with before reading of is quiet asks plain did = record {
     entries = event reading of ∷ before.entries;
     calls = before.calls;
     ticks = tick.Taken now ∷ before.ticks;
     done = one_turn before (plain_turn None is did plain (gains_nothing clock1)) quiet;
-    ends = (ap (λ os. outcome_of of ++ os) before.met_so, ap (λ bs. bs ++ bytes_of of) before.no_bytes);
+    ends = (
+      ap (λ os. outcome_of of ++ os) before.met_so,
+      ap (λ bs. bs ++ bytes_of of) before.no_bytes,
+      before.reached,
+    );
     asks = record {
       asked = subst (λ (bs : List ℕ). AllByRecursion (IsBlockOf parts) (bs ++ blocks_asked before.entries)) (sym asks)
           before.asks.asked;
@@ -281,6 +288,7 @@ module _ {Then : List Entry → Type 0} {met : List Outcome} {names names1 : Nam
     done = one_turn before (wait_turn reading why is did waits) refl;
     met_so = before.met_so;
     no_bytes = ap (λ bs. bs ++ []) before.no_bytes;
+    reached = (pause_is waits.paused).reaches before.ticks before.reached;
     asks = record { asked = before.asks.asked };
     leads = λ past. lasts (event reading (kind.Waited why) ∷ []) (before.entries ++ past) (before.leads past);
   }
@@ -293,7 +301,8 @@ module _ {Then : List Entry → Type 0} {met : List Outcome} {names names1 : Nam
       → EventWhere Then names1 names2 b c tape1 tape2 now entry
       → Waits clock1 clock2 latest latest' now why (Err fault)
       → Does (Did names names2 a c tape tape2 log log1 faults faults1 clock clock2) parts
-      (λ entries calls ticks. (outcomes_of entries ≡ met) × HasCause (base_of a) fault entries calls ticks)
+      (λ entries calls ticks. (outcomes_of entries ≡ met) × ReachesBut fault ticks
+      × HasCause (base_of a) fault entries calls ticks)
   wait_fails before reading why fault is did waits = record {
     entries = event reading (kind.Waited why) ∷ before.entries;
     calls = before.calls;
@@ -301,6 +310,7 @@ module _ {Then : List Entry → Type 0} {met : List Outcome} {names names1 : Nam
     done = one_turn before (wait_turn reading why is did waits) refl;
     ends = (
       before.met_so,
+      (pause_is waits.paused).reaches before.ticks before.reached,
       (pause_is waits.paused).cause (base_of a) (event reading (kind.Waited why)) before.entries before.calls
           before.ticks waits.pause_is,
     );
@@ -361,6 +371,7 @@ module _ {Then : List Entry → Type 0} {met : List Outcome} {names names1 : Nam
         done = get_does job before is did fetched;
         met_so = before.met_so;
         no_bytes = ap (λ bs. (bs ++ []) ++ []) before.no_bytes;
+        reached = fetched.reaches (tick.Taken now ∷ before.ticks) before.reached;
         asks = record { asked = (same, before.asks.asked) };
         leads = λ past. lasts more (before.entries ++ past) (before.leads past);
       }
@@ -373,7 +384,8 @@ module _ {Then : List Entry → Type 0} {met : List Outcome} {names names1 : Nam
       → EventWhere Then names1 names2 b c tape1 tape2 now entry
       → FetchDoes names2 names3 c d tape2 tape3 clock1 clock3 log1 log3 faults1 faults3 job (Err fault)
       → Does (Did names names3 a d tape tape3 log log3 faults faults3 clock clock3) parts
-      (λ entries calls ticks. (outcomes_of entries ≡ met) × HasCause (base_of a) fault entries calls ticks)
+      (λ entries calls ticks. (outcomes_of entries ≡ met) × ReachesBut fault ticks
+      × HasCause (base_of a) fault entries calls ticks)
   get_fails {names2} before job fault is same did fetched =
       let more = get_ended job fetched.reading fetched.got fetched.bytes fetched.taken ∷ get_begun job ∷ [] in
       let asked = call.Get (name_of names2 job.block) job.verify (get_reply fetched.got fetched.bytes) in
@@ -384,6 +396,7 @@ module _ {Then : List Entry → Type 0} {met : List Outcome} {names names1 : Nam
         done = get_does job before is did fetched;
         ends = (
           before.met_so,
+          fetched.reaches (tick.Taken now ∷ before.ticks) before.reached,
           fails_so before did.base fault before.entries more asked fetched.later fetched.after fetched.cause,
         );
         asks = record { asked = (same, before.asks.asked) };
@@ -428,6 +441,7 @@ module _ {Then : List Entry → Type 0} {met : List Outcome} {names names1 : Nam
         done = put_does reading block content before is did stored;
         met_so = before.met_so;
         no_bytes = ap (λ bs. (bs ++ []) ++ []) before.no_bytes;
+        reached = stored.reaches (tick.Taken now ∷ before.ticks) before.reached;
         asks = record { asked = before.asks.asked };
         leads = λ past. lasts more (before.entries ++ past) (before.leads past);
       }
@@ -441,7 +455,8 @@ module _ {Then : List Entry → Type 0} {met : List Outcome} {names names1 : Nam
       → EventWhere Then names1 names2 b c tape1 tape2 now entry
       → StoreDoes names2 names3 c d tape2 tape3 clock1 clock3 log1 log3 faults1 faults3 block content (Err fault)
       → Does (Did names names3 a d tape tape3 log log3 faults faults3 clock clock3) parts
-      (λ entries calls ticks. (outcomes_of entries ≡ met) × HasCause (base_of a) fault entries calls ticks)
+      (λ entries calls ticks. (outcomes_of entries ≡ met) × ReachesBut fault ticks
+      × HasCause (base_of a) fault entries calls ticks)
   put_fails {names2} before reading block content fault is did stored =
       let ended = put_ended block stored.reading stored.sent in
       let begun = event reading (kind.PutBegin block content) in
@@ -453,6 +468,7 @@ module _ {Then : List Entry → Type 0} {met : List Outcome} {names names1 : Nam
         done = put_does reading block content before is did stored;
         ends = (
           before.met_so,
+          stored.reaches (tick.Taken now ∷ before.ticks) before.reached,
           fails_so before did.base fault (begun ∷ before.entries) (ended ∷ []) asked stored.later stored.after
               stored.cause,
         );
@@ -474,6 +490,7 @@ begins_flush {begun = begun} {now = now} reading mark first did second = record 
   done = one_turn (starts {parts = []} first) (plain_turn (Some now) refl did (λ past. refl) second) refl;
   met_so = refl;
   no_bytes = refl;
+  reached = tt;
   asks = record { asked = tt };
   leads = λ past.
       ap (λ (t : Bool). is_some (if t then Some (length past) else flush_place past mark)) (eq-eqb mark mark refl);

@@ -142,12 +142,34 @@ HasCause base (StaleRead block expected shown begun) entries calls ticks =
     IsStale base block expected shown begun entries
 HasCause base (ClockStalled before asked after) entries calls ticks = IsStalled before asked after entries ticks
 
+-- each pause stands between two readings, and the later one is that of the pause's end or above it
+abbrev pub PausesReach : List Tick → Type 0
+PausesReach [] = Unit {0}
+PausesReach (tick.Paused millis ∷ ticks) = ⊥
+PausesReach (tick.Taken after ∷ []) = Unit {0}
+PausesReach (tick.Taken after ∷ tick.Taken before ∷ ticks) = PausesReach (tick.Taken before ∷ ticks)
+PausesReach (tick.Taken after ∷ tick.Paused millis ∷ []) = ⊥
+PausesReach (tick.Taken after ∷ tick.Paused millis ∷ tick.Paused other ∷ ticks) = ⊥
+PausesReach (tick.Taken after ∷ tick.Paused millis ∷ tick.Taken before ∷ ticks) =
+    (before + millis ≤ after) × PausesReach (tick.Taken before ∷ ticks)
+
+-- before the last pause and the reading behind it
+abbrev pub ReachesBefore : List Tick → Type 0
+ReachesBefore (tick.Taken after ∷ tick.Paused millis ∷ ticks) = PausesReach ticks
+ReachesBefore ticks = ⊥
+
+-- no pause of a call that failed so came short, but for the last one, where its clock stands still
+abbrev pub ReachesBut : CallFault → List Tick → Type 0
+ReachesBut (ClockStalled before asked after) ticks = ReachesBefore ticks
+ReachesBut fault ticks = PausesReach ticks
+
 -- a proper front of a goal was met, and then a call of the disk failed so
 pub record Stops (base : Base) (goal : List Outcome) (entries : List Entry) (calls : List Call) (ticks : List Tick)
     (fault : CallFault) : Type 0 where
   pub missing : List Outcome
   pub some : 0 < length missing
   pub met : missing ++ outcomes_of entries ≡ goal
+  pub reached : ReachesBut fault ticks
   pub cause : HasCause base fault entries calls ticks
 
 -- what was done between two states of a disk and its desk: it ended so, and asked for no other blocks than those of
@@ -161,13 +183,14 @@ pub record Does (did : List Entry → List Call → List Tick → Type 0) (parts
   pub ends : Ends entries calls ticks
   pub asks : AsksOnly parts entries
 
--- a call read a part and gave these bytes, or it read nothing and has a cause
+-- a call read a part and gave these bytes, or it read nothing and has a cause; only a clock that stands still has a
+-- pause that came short
 abbrev pub ReadEnds : Base → Part → List ℕ → Result Unit CallFault → List Entry → List Call → List Tick
     → Type 0
 ReadEnds base part bytes (Ok done) entries calls ticks =
-    (outcomes_of entries ≡ ReadDone part ∷ []) × (bytes_read entries ≡ bytes)
+    (outcomes_of entries ≡ ReadDone part ∷ []) × (bytes_read entries ≡ bytes) × PausesReach ticks
 ReadEnds base part bytes (Err fault) entries calls ticks =
-    (outcomes_of entries ≡ []) × HasCause base fault entries calls ticks
+    (outcomes_of entries ≡ []) × ReachesBut fault ticks × HasCause base fault entries calls ticks
 
 abbrev pub ReadDoes : Base → (List Entry → List Call → List Tick → Type 0) → Part → List ℕ → Result Unit CallFault
     → Type 0
@@ -176,9 +199,10 @@ ReadDoes base did part bytes result = Does did (part ∷ []) (ReadEnds base part
 -- a call wrote these bytes to a part, or it wrote nothing and has a cause
 abbrev pub WriteEnds : Base → Part → List ℕ → Result Unit CallFault → List Entry → List Call → List Tick
     → Type 0
-WriteEnds base part bytes (Ok done) entries calls ticks = outcomes_of entries ≡ WriteDone part bytes ∷ []
+WriteEnds base part bytes (Ok done) entries calls ticks =
+    (outcomes_of entries ≡ WriteDone part bytes ∷ []) × PausesReach ticks
 WriteEnds base part bytes (Err fault) entries calls ticks =
-    (outcomes_of entries ≡ []) × HasCause base fault entries calls ticks
+    (outcomes_of entries ≡ []) × ReachesBut fault ticks × HasCause base fault entries calls ticks
 
 abbrev pub WriteDoes : Base → (List Entry → List Call → List Tick → Type 0) → Part → List ℕ → Result Unit CallFault
     → Type 0
@@ -195,7 +219,7 @@ IsOfNoRead other = Unit {0}
 
 -- a flush began and ended with one mark, or it did not and has a cause
 abbrev pub FlushEnds : Base → Result Unit CallFault → List Entry → List Call → List Tick → Type 0
-FlushEnds base (Ok done) entries calls ticks = (mark : ℕ) × (outcomes_of entries ≡ flush_of mark)
+FlushEnds base (Ok done) entries calls ticks = (mark : ℕ) × (outcomes_of entries ≡ flush_of mark) × PausesReach ticks
 FlushEnds base (Err fault) entries calls ticks =
     (mark : ℕ) × Stops base (flush_of mark) entries calls ticks fault × IsOfNoRead fault
 

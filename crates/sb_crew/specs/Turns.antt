@@ -23,7 +23,7 @@ use Rattle.sb_crew.specs.Names.{Naming, name_of}
 use Rattle.sb_crew.specs.Answers.{shown_for}
 use Rattle.sb_crew.specs.declared.calls.CallFault.{CallFault}
 use Rattle.sb_crew.specs.declared.calls.CallFault.TheVariants.{ClockStalled}
-use Rattle.sb_crew.specs.Outcomes.{Outcome, outcomes_of, bytes_read, AsksOnly, HasCause}
+use Rattle.sb_crew.specs.Outcomes.{Outcome, outcomes_of, bytes_read, AsksOnly, HasCause, PausesReach, ReachesBut}
 use Rattle.sb_crew.specs.Runs.{any_past, TurnWhere, DidWhere}
 
 -- what a call did so far, with the next reading taken: these outcomes, no bytes that it wants, and it asked for no
@@ -38,6 +38,7 @@ pub record SoFar (Then : List Entry → Type 0) (met : List Outcome) (names name
       ticks (Some now)
   pub met_so : outcomes_of entries ≡ met
   pub no_bytes : bytes_read entries ≡ []
+  pub reached : PausesReach (tick.Taken now ∷ ticks)
   pub asks : AsksOnly parts entries
   pub leads : (past : List Entry) → Then (entries ++ past)
 
@@ -50,6 +51,17 @@ next_of (Err fault) = None
 abbrev pub HasCauseIf : Base → List Entry → List Call → List Tick → Result ℕ CallFault → Type 0
 HasCauseIf base entries calls ticks (Ok now) = Unit {0}
 HasCauseIf base entries calls ticks (Err fault) = HasCause base fault entries calls ticks
+
+-- the pauses of a call that goes on reach to its next reading, and those of one that failed but for the last one, where
+-- its clock stands still
+abbrev pub ReachesOn : Result ℕ CallFault → List Tick → Type 0
+ReachesOn (Ok now) ticks = PausesReach (tick.Taken now ∷ ticks)
+ReachesOn (Err fault) ticks = ReachesBut fault ticks
+
+-- what comes behind the readings and pauses before it reaches on as they do
+abbrev pub KeepsReaching : ℕ → List Tick → Result ℕ CallFault → Type 0
+KeepsReaching now after result = (earlier : List Tick) → PausesReach (tick.Taken now ∷ earlier)
+    → ReachesOn result (after ++ tick.Taken now ∷ earlier)
 
 -- a reading is the clock's last one, and within its limit
 pub record IsLatest (latest now : ℕ) : Type 0 where
@@ -112,6 +124,7 @@ pub record FetchDoes (names names' : Naming) (core core' : Core) (tape tape' : O
       (get_ended job reading got bytes taken) (next_of result) after
   pub cause : HasCauseIf (base_of core) (get_ended job reading got bytes taken ∷ get_begun job ∷ [])
       (call.Get (name_of names job.block) job.verify (get_reply got bytes) ∷ []) (after ++ tick.Taken later ∷ []) result
+  pub reaches : KeepsReaching later after result
 
 -- the call of a PUT, and the entry of its end
 abbrev pub put_sent : Naming → ℕ → List ℕ → Result Unit LinkFault → Call
@@ -137,3 +150,4 @@ pub record StoreDoes (names names' : Naming) (core core' : Core) (tape tape' : O
       (put_ended block reading sent) (next_of result) after
   pub cause : HasCauseIf (base_of core) (put_ended block reading sent ∷ []) (put_sent names block content sent ∷ [])
       (after ++ tick.Taken later ∷ []) result
+  pub reaches : KeepsReaching later after result

@@ -1,24 +1,27 @@
 -- Reading and writing ranges, part by part, and the replies.
 use Rattle.std.proofs.Common.{ℕ, ◌≡◌, ◌≤◌, ◌<◌, ◌+◌, ◌-◌, ◌∙◌, List, [], ◌∷◌, ◌++◌, length, take, drop, Ok, Err, sum_by}
 use Rattle.std.proofs.Common.{Some, length-take, length-drop, append_assoc, append-nil, ap, sym, subst, refl, arith}
-use Rattle.std.proofs.Common.{inl, inr}
+use Rattle.std.proofs.Common.{inl, inr, None, ◌≢◌, Bool, nat_eq, if◌then◌else◌}
+use Rattle.std.proofs.lemmas.Bool.{ne_eqb, le-ltb}
 use Rattle.std.specs.List.{AllByRecursion}
 use Rattle.std.proofs.lemmas.List.{length-append, drop-drop}
 use Rattle.std.proofs.lemmas.List.Sums.{sum_by-append, sum_by-cons}
 use Rattle.std.proofs.lemmas.Slice.{take-put_mid}
 use borrow.Rule.Slice.PartMut.{put_mid}
 use Rattle.sb_base.specs.declared.part.Part.{Part}
+use Rattle.sb_base.specs.Ranges.{parts_of}
 use Rattle.sb_base.specs.declared.entry.Entry.{Entry}
 use Rattle.sb_world.specs.declared.clock.Tick.{Tick}
 use Rattle.sb_world.specs.declared.link.Call.{Call}
 use Rattle.sb_nbd.specs.Requests.{Request}
+use Rattle.sb_nbd.specs.declared.wanted.TheConstants.{READ, WRITE, DISC}
 use Rattle.sb_crew.specs.Bases.{Base}
 use Rattle.sb_crew.specs.declared.calls.CallFault.{CallFault}
 use Rattle.sb_crew.specs.Outcomes.{Outcome, ReadDone, outcome_of, outcomes_of, bytes_of, bytes_read, asked_of}
 use Rattle.sb_crew.specs.Outcomes.{blocks_asked, IsBlockOf, AsksOnly, HasCause, ReadDoes, Does, Stops, WriteDone}
-use Rattle.sb_crew.specs.Outcomes.{WriteDoes, FlushDoes, flush_of}
-use Rattle.sb_crew.proofs.OutcomeLemmas.{cause_stays}
-use Rattle.sb_session.specs.Goals.{refusal, reads_of, writes_of}
+use Rattle.sb_crew.specs.Outcomes.{WriteDoes, FlushDoes, flush_of, PausesReach, ReachesBut}
+use Rattle.sb_crew.proofs.OutcomeLemmas.{cause_stays, reaches_join, reaches_but_join}
+use Rattle.sb_session.specs.Goals.{refusal, parts_wanted, reads_of, writes_of, goal_of, body_of}
 use Rattle.sb_session.specs.Answers.{ReadsRange, WritesRange, IsAnswer, ReadAnswers, WriteAnswers, FlushAnswers}
 use Rattle.sb_session.specs.Answers.{Answers, AnswersBy, parts_asked, error_of}
 
@@ -85,11 +88,13 @@ asks_failed ps qs p xs ys first second =
 -- a front of a goal was met, and then a call failed
 pub stops_after : (base : Base) (goal missing before : List Outcome) (xs ys : List Entry) (us vs : List Call)
     (ss ts : List Tick) (fault : CallFault) → 0 < length missing → missing ++ before ≡ goal → outcomes_of xs ≡ before
-    → outcomes_of ys ≡ [] → HasCause base fault ys vs ts → Stops base goal (ys ++ xs) (vs ++ us) (ts ++ ss) fault
-stops_after base goal missing before xs ys us vs ss ts fault some whole first second cause = record {
+    → outcomes_of ys ≡ [] → PausesReach ss → ReachesBut fault ts → HasCause base fault ys vs ts
+    → Stops base goal (ys ++ xs) (vs ++ us) (ts ++ ss) fault
+stops_after base goal missing before xs ys us vs ss ts fault some whole first second reach but cause = record {
   missing = missing;
   some = some;
   met = ap (λ os. missing ++ os) (outcomes_of-append xs ys ∙ ap (λ os. os ++ outcomes_of xs) second ∙ first) ∙ whole;
+  reached = reaches_but_join fault ss ts reach but;
   cause = cause_stays base fault xs ys us vs ss ts cause;
 }
 
@@ -128,7 +133,7 @@ reads_none base did room done = record {
   calls = [];
   ticks = [];
   done = done;
-  ends = (refl, refl);
+  ends = (refl, refl, tt);
   asks =
       record { asked = tt };
 }
@@ -152,6 +157,7 @@ reads_more base P Q R both ps p at m room out len within first second = record {
     bytes_read-append first.entries second.entries
         ∙ ap (λ bytes. bytes ++ bytes_read second.entries) first.ends.1
         ∙ ap (λ bytes. take at room ++ bytes) second.ends.1 ∙ bytes_more at room out p.length m len within,
+    reaches_join first.ticks second.ticks first.ends.2 second.ends.2,
   );
   asks = asks_more ps (p ∷ []) first.entries second.entries first.asks second.asks;
 }
@@ -171,7 +177,7 @@ reads_stop base P Q R both ps qs p at count room now out fault first second = re
   ends = stops_after base (reads_of (ps ++ p ∷ qs)) (reads_of (p ∷ qs))
       (reads_of ps) first.entries second.entries first.calls second.calls first.ticks second.ticks fault
       (omega (arith, length-append (reads_of qs) (ReadDone p ∷ [])))
-      (sym (reads_of-append ps (p ∷ qs))) first.ends.0 second.ends.0 second.ends.1;
+      (sym (reads_of-append ps (p ∷ qs))) first.ends.0 second.ends.0 first.ends.2 second.ends.1 second.ends.2;
   asks = asks_failed ps qs p first.entries second.entries first.asks second.asks;
 }
 
@@ -196,7 +202,7 @@ writes_none base did payload done = record {
   calls = [];
   ticks = [];
   done = done;
-  ends = refl;
+  ends = (refl, tt);
   asks =
       record { asked = tt };
 }
@@ -217,10 +223,13 @@ writes_more base P Q R both ps p at payload is first second =
       calls = second.calls ++ first.calls;
       ticks = second.ticks ++ first.ticks;
       done = both first.entries second.entries first.calls second.calls first.ticks second.ticks first.done second.done;
-      ends = outcomes_of-append first.entries second.entries
-          ∙ ap (λ os. os ++ outcomes_of first.entries) (second.ends ∙ given)
-          ∙ ap (λ os. WriteDone p (take p.length (drop (sum_by length_of ps) payload)) ∷ os) first.ends
-          ∙ sym (writes_of-append ps (p ∷ []) payload);
+      ends = (
+        outcomes_of-append first.entries second.entries
+            ∙ ap (λ os. os ++ outcomes_of first.entries) (second.ends.0 ∙ given)
+            ∙ ap (λ os. WriteDone p (take p.length (drop (sum_by length_of ps) payload)) ∷ os) first.ends.0
+            ∙ sym (writes_of-append ps (p ∷ []) payload),
+        reaches_join first.ticks second.ticks first.ends.1 second.ends.1,
+      );
       asks = asks_more ps (p ∷ []) first.entries second.entries first.asks second.asks;
     }
 
@@ -245,14 +254,17 @@ writes_stop base P Q R both ps qs p payload bytes fault first second =
             length-append (writes_of qs (drop p.length after))
                 (WriteDone p (take p.length after) ∷ []),
           ))
-          (sym (writes_of-append ps (p ∷ qs) payload)) first.ends second.ends.0 second.ends.1;
+          (sym (writes_of-append ps (p ∷ qs) payload)) first.ends.0 second.ends.0 first.ends.1 second.ends.1
+          second.ends.2;
       asks = asks_failed ps qs p first.entries second.entries first.asks second.asks;
     }
 
 -- the reply to a goal that was met
 completes : (base : Base) (goal : List Outcome) (bytes : List ℕ) (entries : List Entry) (calls : List Call)
-    (ticks : List Tick) → outcomes_of entries ≡ goal → IsAnswer base goal bytes entries calls ticks 0 bytes
-completes base goal bytes entries calls ticks met = inl (record { met = met; no_error = refl; body_is = refl })
+    (ticks : List Tick) → outcomes_of entries ≡ goal → PausesReach ticks
+    → IsAnswer base goal bytes entries calls ticks 0 bytes
+completes base goal bytes entries calls ticks met reached =
+    inl (record { met = met; reached = reached; no_error = refl; body_is = refl })
 
 -- the reply to one that wasn't
 fails : (base : Base) (goal : List Outcome) (bytes : List ℕ) (entries : List Entry) (calls : List Call)
@@ -271,7 +283,7 @@ read_answers base did parts count room read = record {
   ticks = read.ticks;
   done = read.done;
   asks = read.asks;
-  ends = inl (record { met = read.ends.0; no_error = refl; body_is = sym read.ends.1 });
+  ends = inl (record { met = read.ends.0; reached = read.ends.2; no_error = refl; body_is = sym read.ends.1 });
 }
 
 pub read_fails : (base : Base) (did : List Entry → List Call → List Tick → Type 0) (parts : List Part) (count error : ℕ)
@@ -296,7 +308,8 @@ write_answers base did parts payload written = record {
   ticks = written.ticks;
   done = written.done;
   asks = written.asks;
-  ends = completes base (writes_of parts payload) [] written.entries written.calls written.ticks written.ends;
+  ends = completes base (writes_of parts payload) [] written.entries written.calls written.ticks written.ends.0
+      written.ends.1;
 }
 
 pub write_fails : (base : Base) (did : List Entry → List Call → List Tick → Type 0) (parts : List Part)
@@ -323,7 +336,8 @@ flush_answers base did flushed = record {
   asks = flushed.asks;
   ends = (
     flushed.ends.0,
-    completes base (flush_of flushed.ends.0) [] flushed.entries flushed.calls flushed.ticks flushed.ends.1,
+    completes base (flush_of flushed.ends.0) [] flushed.entries flushed.calls flushed.ticks flushed.ends.1
+        flushed.ends.2,
   );
 }
 
@@ -341,6 +355,39 @@ flush_fails base did error fault is flushed = record {
         flushed.ends.1,
   );
 }
+
+-- the reply to a FLUSH
+pub flush_served : (did : List Entry → List Call → List Tick → Type 0) (base : Base) (r : Request) (error : ℕ)
+    → refusal base.geometry r.wanted ≡ None → r.wanted.kind ≢ READ → r.wanted.kind ≢ WRITE → DISC ≤ r.wanted.kind
+    → FlushAnswers base did error → Answers did base r error []
+flush_served did base r error served read write disc told =
+    let w = r.wanted in
+    let mark = told.ends.0 in
+    let none : parts_asked None base.geometry r ≡ [] =
+    ap (λ (t : Bool). if t then parts_of base.geometry.block_size w.offset (w.offset + w.length) else [])
+    (le-ltb w.kind DISC disc) in
+    let goal : goal_of base.geometry r mark ≡ flush_of mark =
+    ap (λ (t : Bool). if t then reads_of (parts_wanted base.geometry w) else if nat_eq w.kind WRITE then writes_of
+    (parts_wanted base.geometry w) r.payload else flush_of mark) (ne_eqb w.kind READ read)
+    ∙ ap (λ (t : Bool). if t then writes_of (parts_wanted base.geometry w) r.payload else flush_of mark)
+    (ne_eqb w.kind WRITE write) in
+    let body : body_of w told.entries ≡ [] =
+    ap (λ (t : Bool). if t then bytes_read told.entries else []) (ne_eqb w.kind READ read) in
+    let flushed : Does did (parts_asked None base.geometry r) (AnswersBy None base r error []) = record {
+      entries = told.entries;
+      calls = told.calls;
+      ticks = told.ticks;
+      done = told.done;
+      asks = subst (λ (parts : List Part). AsksOnly parts told.entries) (sym none) told.asks;
+      ends = (
+        mark,
+        subst (λ (outcomes : List Outcome).
+            IsAnswer base outcomes (body_of w told.entries) told.entries told.calls told.ticks error []) (sym goal)
+            (subst (λ (bytes : List ℕ).
+            IsAnswer base (flush_of mark) bytes told.entries told.calls told.ticks error []) (sym body) told.ends.1),
+      );
+    } in
+    subst (λ code. Does did (parts_asked code base.geometry r) (AnswersBy code base r error [])) (sym served) flushed
 
 -- the reply to a request that is refused
 pub refused_answers : (did : List Entry → List Call → List Tick → Type 0)

@@ -10,14 +10,14 @@ use Rattle.sb_nbd.specs.Requests.{Request}
 use Rattle.sb_crew.specs.Bases.{Base}
 use Rattle.sb_crew.specs.declared.calls.CallFault.{CallFault}
 use Rattle.sb_crew.specs.declared.calls.CallFault.TheVariants.{StoreFault, Memory, StaleRead, ClockStalled}
-use Rattle.sb_crew.specs.Outcomes.{Outcome, outcomes_of, bytes_read, flush_of, Stops, Does}
+use Rattle.sb_crew.specs.Outcomes.{Outcome, outcomes_of, bytes_read, flush_of, PausesReach, Stops, Does}
 use Rattle.sb_session.specs.Goals.{refusal, parts_wanted, reads_of, writes_of, goal_of, body_of}
 
--- all parts were read into the front of a buffer, or a call failed before
+-- all parts were read into the front of a buffer, and no pause came short, or a call failed before
 abbrev pub RangeReads : Base → List Part → ℕ → List ℕ → Result Unit CallFault → List Entry → List Call → List Tick
     → Type 0
 RangeReads base parts count room (Ok done) entries calls ticks =
-    (outcomes_of entries ≡ reads_of parts) × (bytes_read entries ≡ take count room)
+    (outcomes_of entries ≡ reads_of parts) × (bytes_read entries ≡ take count room) × PausesReach ticks
 RangeReads base parts count room (Err fault) entries calls ticks = Stops base (reads_of parts) entries calls ticks fault
 
 -- what reading parts did
@@ -26,10 +26,11 @@ abbrev pub ReadsRange : Base → (List Entry → List Call → List Tick → Typ
     → Type 0
 ReadsRange base did parts count room result = Does did parts (RangeReads base parts count room result)
 
--- all parts were written from a payload, or a call failed before
+-- all parts were written from a payload, and no pause came short, or a call failed before
 abbrev pub RangeWrites : Base → List Part → List ℕ → Result Unit CallFault → List Entry → List Call → List Tick
     → Type 0
-RangeWrites base parts payload (Ok done) entries calls ticks = outcomes_of entries ≡ writes_of parts payload
+RangeWrites base parts payload (Ok done) entries calls ticks =
+    (outcomes_of entries ≡ writes_of parts payload) × PausesReach ticks
 RangeWrites base parts payload (Err fault) entries calls ticks =
     Stops base (writes_of parts payload) entries calls ticks fault
 
@@ -46,10 +47,11 @@ error_of Memory = ENOMEM
 error_of (StaleRead block expected shown begun) = EIO
 error_of (ClockStalled before asked after) = EIO
 
--- the goal was met: error 0, and these bytes
-pub record Completes (goal : List Outcome) (bytes : List ℕ) (entries : List Entry) (error : ℕ)
+-- the goal was met, and no pause came short: error 0, and these bytes
+pub record Completes (goal : List Outcome) (bytes : List ℕ) (entries : List Entry) (ticks : List Tick) (error : ℕ)
     (body : List ℕ) : Type 0 where
   pub met : outcomes_of entries ≡ goal
+  pub reached : PausesReach ticks
   pub no_error : error ≡ 0
   pub body_is : body ≡ bytes
 
@@ -64,7 +66,7 @@ pub record Fails (base : Base) (goal : List Outcome) (entries : List Entry) (cal
 -- the goal was met or it wasn't
 abbrev pub IsAnswer : Base → List Outcome → List ℕ → List Entry → List Call → List Tick → ℕ → List ℕ → Type 0
 IsAnswer base goal bytes entries calls ticks error body =
-    Completes goal bytes entries error body ⊎ Fails base goal entries calls ticks error body
+    Completes goal bytes entries ticks error body ⊎ Fails base goal entries calls ticks error body
 
 -- what a READ of parts did, and the reply to it
 abbrev pub ReadAnswers : Base → (List Entry → List Call → List Tick → Type 0) → List Part → ℕ → List ℕ → Type 0

@@ -67,7 +67,7 @@ returns-in-Done-clause-did g c =
       calls = ended.calls;
       ticks = ended.ticks;
       done = ended.done;
-      ends = (mark, ended.ends.0);
+      ends = (mark, ended.ends.0, ended.ends.2);
       asks = ended.asks;
     }
 
@@ -90,7 +90,8 @@ returns-in_err-now-in-Wait-clause-did g c =
           missing = FlushEnded mark ∷ [];
           some = omega (arith);
           met = ap (λ (os : List Outcome). FlushEnded mark ∷ os) ended.ends.0;
-          cause = ended.ends.1;
+          reached = ended.ends.1;
+          cause = ended.ends.2;
         },
         pause_reads_nothing c.in_err-now-in-Wait.ensures.paused,
       );
@@ -117,7 +118,8 @@ returns-in_err-now-in-Put-clause-did g c =
           missing = FlushEnded mark ∷ [];
           some = omega (arith);
           met = ap (λ (os : List Outcome). FlushEnded mark ∷ os) ended.ends.0;
-          cause = ended.ends.1;
+          reached = ended.ends.1;
+          cause = ended.ends.2;
         },
         put_reads_nothing (base_of c.ask_flush.new.self.core) c.in_err-now-in-Put.field-0.0 _ _ _
             c.in_err-now-in-Put.ensures.did.cause,

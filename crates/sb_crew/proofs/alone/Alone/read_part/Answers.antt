@@ -6,6 +6,7 @@ use Rattle.sb_base.specs.Ranges.{IsPart}
 use Rattle.sb_core.specs.Steps.{read_entry}
 use Rattle.sb_core.specs.Progress.{is_idle}
 use Rattle.sb_crew.proofs.Asking.{begun_entry, ahead}
+use Rattle.sb_crew.proofs.Measures.{less_behind_get}
 use Rattle.sb_crew.proofs.Turning.{any_lasts, starts, after_drop, after_wait, after_get, after_put, ends_with}
 use Rattle.sb_crew.proofs.Turning.{wait_fails, get_fails, put_fails}
 use Rattle.sb_crew.proofs.alone.Alone.read_part.Goals as goal
@@ -96,6 +97,13 @@ returns-in_err-now-in-Get-clause-did g c =
       ends = ended.ends;
       asks = ended.asks;
     }
+
+pub turns-smaller-in-Get : goal.turns-smaller-in-Get
+turns-smaller-in-Get g c =
+    less_behind_get c.turns.self.core c.ask_read.new.self.core c.fetch.new.self.core c.in-Get.job.block
+    c.args.part.block c.turns.now c.in_ok-now-in-Get.now _ _ c.in-Get.ensures.leads.begun
+    c.in-Get.ensures.leads.closer c.in_ok-now-in-Get.ensures.leads c.turns.invariant.latest.is
+    c.in_ok-now-in-Get.ensures.next.limit
 
 pub turns-preserved-in-Get : goal.turns-preserved-in-Get
 turns-preserved-in-Get g c =

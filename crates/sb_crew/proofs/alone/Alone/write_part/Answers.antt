@@ -6,6 +6,7 @@ use Rattle.sb_base.specs.Ranges.{IsPart}
 use Rattle.sb_core.specs.Steps.{write_entry}
 use Rattle.sb_core.specs.Progress.{is_idle}
 use Rattle.sb_crew.proofs.Asking.{begun_entry, ahead}
+use Rattle.sb_crew.proofs.Measures.{less_behind_get}
 use Rattle.sb_crew.proofs.Turning.{any_lasts, starts, after_drop, after_wait, after_get, after_put, ends_with}
 use Rattle.sb_crew.proofs.Turning.{wait_fails, get_fails, put_fails}
 use Rattle.sb_crew.proofs.alone.Alone.write_part.Goals as goal
@@ -33,7 +34,7 @@ returns-in-Done-clause-did g c =
       calls = ended.calls;
       ticks = ended.ticks;
       done = ended.done;
-      ends = ended.ends.0;
+      ends = (ended.ends.0, ended.ends.2);
       asks = ended.asks;
     }
 
@@ -94,6 +95,13 @@ returns-in_err-now-in-Get-clause-did g c =
       ends = ended.ends;
       asks = ended.asks;
     }
+
+pub turns-smaller-in-Get : goal.turns-smaller-in-Get
+turns-smaller-in-Get g c =
+    less_behind_get c.turns.self.core c.ask_write.new.self.core c.fetch.new.self.core c.in-Get.job.block
+    c.args.part.block c.turns.now c.in_ok-now-in-Get.now _ _ c.in-Get.ensures.leads.begun
+    c.in-Get.ensures.leads.closer c.in_ok-now-in-Get.ensures.leads c.turns.invariant.latest.is
+    c.in_ok-now-in-Get.ensures.next.limit
 
 pub turns-preserved-in-Get : goal.turns-preserved-in-Get
 turns-preserved-in-Get g c =

@@ -5,7 +5,7 @@ use Rattle.sb_world.specs.declared.link.Call.TheVariants as call
 use Rattle.sb_world.specs.declared.link.GetReply.TheVariants as get
 use Rattle.sb_crew.specs.Bases.{Base}
 use Rattle.sb_crew.specs.Outcomes.{flush_of}
-use Rattle.sb_crew.proofs.Requesting.{fails_by, request_reads_nothing}
+use Rattle.sb_crew.proofs.Requesting.{fails_by, reaches_by, request_reads_nothing}
 use Rattle.sb_session.proofs.tests.BytesCallsUnit.flush.Goals as goal
 
 pub returns-in-None-clause-did : goal.returns-in-None-clause-did
@@ -16,7 +16,7 @@ returns-in-None-clause-did c = record {
   calls = [];
   ticks = [];
   done = tt;
-  ends = (0, refl);
+  ends = (0, refl, tt);
   asks = record { asked = tt };
 }
 
@@ -30,6 +30,7 @@ returns-in-Some-clause-did c =
           missing = flush_of 0;
           some = omega arith;
           met = refl;
+          reached = reaches_by c.in-Some.fault c.call_fault.result [] c.call_fault.ensures tt;
           cause = fails_by base c.in-Some.fault c.call_fault.result _ [] _ [] [] c.call_fault.ensures tt refl;
         },
         request_reads_nothing c.in-Some.fault c.call_fault.result c.call_fault.ensures,

@@ -4,7 +4,7 @@ use Rattle.sb_base.specs.declared.entry.Shown.TheVariants as shown
 use Rattle.sb_world.specs.declared.link.Call.TheVariants as call
 use Rattle.sb_world.specs.declared.link.GetReply.TheVariants as get
 use Rattle.sb_crew.specs.Bases.{Base}
-use Rattle.sb_crew.proofs.Requesting.{fails_by}
+use Rattle.sb_crew.proofs.Requesting.{fails_by, reaches_by}
 use Rattle.sb_session.proofs.tests.BytesCallsUnit.read.Goals as goal
 
 pub returns-in-None-clause-did : goal.returns-in-None-clause-did
@@ -14,7 +14,7 @@ returns-in-None-clause-did c = record {
   ticks = [];
   done =
       tt;
-  ends = (refl, refl);
+  ends = (refl, refl, tt);
   asks = record { asked = tt };
 }
 
@@ -26,6 +26,10 @@ returns-in-Some-clause-did c =
       calls = call.Get [] None (get.Fault c.in-Some.fault) ∷ [];
       ticks = [];
       done = tt;
-      ends = (refl, fails_by base c.in-Some.fault c.call_fault.result _ [] _ [] [] c.call_fault.ensures tt refl);
+      ends = (
+        refl,
+        reaches_by c.in-Some.fault c.call_fault.result [] c.call_fault.ensures tt,
+        fails_by base c.in-Some.fault c.call_fault.result _ [] _ [] [] c.call_fault.ensures tt refl,
+      );
       asks = record { asked = tt };
     }
