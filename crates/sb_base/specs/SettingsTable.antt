@@ -6,8 +6,6 @@ use Rattle.sb_base.specs.declared.settings.SettingsFault.{SettingsFault}
 use Rattle.sb_base.specs.declared.settings.SettingsFault.TheVariants.{TimesWithoutWindow, WindowSize, WindowShort}
 use Rattle.sb_base.specs.declared.settings.SettingsFault.TheVariants.{WindowSmall, CacheSize, MaxDirty, StaleLimit}
 use Rattle.sb_base.specs.declared.settings.SettingsFault.TheVariants.{ReadAhead, Threads, Clients}
-use Rattle.sb_base.specs.declared.settings.TheConstants.{MAX_MD5_SIZE, MAX_CACHE_SIZE, MAX_STALE_LIMIT, MAX_READ_AHEAD}
-use Rattle.sb_base.specs.declared.settings.TheConstants.{MAX_THREADS, MAX_CLIENTS}
 
 -- settings for a disk of so many blocks, where they are known
 pub record IsChecked (settings : Settings) (blocks : Option ℕ) : Type 0 where
@@ -32,12 +30,12 @@ is_outside limit number = nat_eq number 0 || nat_lt limit number
 -- the first fault of the cache and of the numbers behind it
 abbrev pub numbers_check : Settings → Result Unit SettingsFault
 numbers_check settings =
-    if is_outside MAX_CACHE_SIZE settings.cache_size then Err (CacheSize settings.cache_size)
+    if is_outside 1048576 settings.cache_size then Err (CacheSize settings.cache_size)
     else if nat_lt settings.cache_size settings.max_dirty then Err (MaxDirty settings.max_dirty settings.cache_size)
-    else if nat_lt MAX_STALE_LIMIT settings.stale_limit then Err (StaleLimit settings.stale_limit)
-    else if nat_lt MAX_READ_AHEAD settings.read_ahead then Err (ReadAhead settings.read_ahead)
-    else if is_outside MAX_THREADS settings.threads then Err (Threads settings.threads)
-    else if is_outside MAX_CLIENTS settings.clients then Err (Clients settings.clients)
+    else if nat_lt 3600000 settings.stale_limit then Err (StaleLimit settings.stale_limit)
+    else if nat_lt 1024 settings.read_ahead then Err (ReadAhead settings.read_ahead)
+    else if is_outside 64 settings.threads then Err (Threads settings.threads)
+    else if is_outside 16 settings.clients then Err (Clients settings.clients)
     else Ok tt
 
 -- the blocks for which a window that keeps each MD5 for ever is too small, where they are known
@@ -57,7 +55,7 @@ abbrev pub check_of : Settings → Option ℕ → Result Unit SettingsFault
 check_of settings blocks =
     if nat_eq settings.md5_size 0 && not (nat_eq settings.min_write_delay 0 && nat_eq settings.md5_time 0)
     then Err (TimesWithoutWindow settings.min_write_delay settings.md5_time)
-    else if nat_lt MAX_MD5_SIZE settings.md5_size then Err (WindowSize settings.md5_size)
+    else if nat_lt 1048576 settings.md5_size then Err (WindowSize settings.md5_size)
     else if not (nat_eq settings.md5_time 0) && nat_lt settings.md5_time settings.min_write_delay
     then Err (WindowShort settings.md5_time settings.min_write_delay)
     else unless_small settings.md5_size (uncovered_blocks settings blocks) (numbers_check settings)
