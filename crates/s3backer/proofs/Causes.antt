@@ -11,10 +11,8 @@ use Rattle.sb_world.specs.declared.clock.Tick.{Tick}
 use Rattle.sb_world.specs.declared.link.Call.{Call}
 use Rattle.sb_world.specs.declared.link.LinkFault.{LinkFault}
 use Rattle.sb_nbd.specs.declared.wanted.Wanted.{Wanted}
-use Rattle.sb_nbd.specs.declared.wanted.TheConstants.{READ, WRITE, FLUSH}
-use Rattle.sb_nbd.specs.declared.request.TheConstants.{MAX_PAYLOAD}
+use Rattle.sb_nbd.specs.Numbers.{einval, eio, enomem, enospc, flush_type, max_payload, read_type, write_type}
 use Rattle.sb_nbd.specs.Requests.{Request}
-use Rattle.sb_nbd.specs.declared.reply.TheConstants.{EINVAL, ENOSPC, EIO, ENOMEM}
 use Rattle.sb_crew.specs.Bases.{Base}
 use Rattle.sb_crew.specs.declared.calls.CallFault.{CallFault}
 use Rattle.sb_crew.specs.declared.calls.CallFault.TheVariants.{StoreFault, Memory, StaleRead, ClockStalled}
@@ -62,7 +60,7 @@ cause_fails base status (entry ∷ entries) (asked ∷ calls) ticks cause none =
 -- no request is refused by the error of a store that failed
 abbrev IsOtherCode : Option ℕ → Type 0
 IsOtherCode None = Unit {0}
-IsOtherCode (Some code) = code ≢ EIO
+IsOtherCode (Some code) = code ≢ eio
 
 record IsOther (refused : Option ℕ) : Type 0 where
   code : IsOtherCode refused
@@ -71,10 +69,10 @@ either_other : (t : Bool) (x y : Option ℕ) → IsOther x → IsOther y → IsO
 either_other true x y first second = first
 either_other false x y first second = second
 
-invalid_is_other : IsOther (Some EINVAL)
+invalid_is_other : IsOther (Some einval)
 invalid_is_other = record { code = λ is. absurd (omega (arith, is)) }
 
-no_space_is_other : IsOther (Some ENOSPC)
+no_space_is_other : IsOther (Some enospc)
 no_space_is_other = record { code = λ is. absurd (omega (arith, is)) }
 
 served_is_other : IsOther None
@@ -82,29 +80,29 @@ served_is_other = record { code = tt }
 
 refused_otherwise : (geometry : Geometry) (w : Wanted) → IsOther (refusal geometry w)
 refused_otherwise geometry w =
-    either_other (nat_lt FLUSH w.kind) _ _ invalid_is_other
+    either_other (nat_lt flush_type w.kind) _ _ invalid_is_other
     (either_other (nat_lt 0 w.flags) _ _ invalid_is_other
-    (either_other (nat_eq w.kind READ) _ _
-    (either_other (nat_lt MAX_PAYLOAD w.length) _ _ invalid_is_other
+    (either_other (nat_eq w.kind read_type) _ _
+    (either_other (nat_lt max_payload w.length) _ _ invalid_is_other
     (either_other (passes_end geometry w) _ _ invalid_is_other served_is_other))
-    (either_other (nat_eq w.kind WRITE) _ _
+    (either_other (nat_eq w.kind write_type) _ _
     (either_other (passes_end geometry w) _ _ no_space_is_other served_is_other) served_is_other)))
 
 -- the reply to a request none of whose calls failed
-memory_is_other : ENOMEM ≢ EIO
+memory_is_other : enomem ≢ eio
 memory_is_other is = absurd (omega (arith, is))
 
-none_is_other : 0 ≢ EIO
+none_is_other : 0 ≢ eio
 none_is_other is = absurd (omega (arith, is))
 
 -- the reply to a request none of whose calls failed
 number_otherwise : (base : Base) (fault : CallFault) (goal : List Outcome) (entries : List Entry)
     (calls : List Call) (ticks : List Tick) (error : ℕ) → Stops base goal entries calls ticks fault
-    → error ≡ error_of fault → failures calls ≡ 0 → (error ≢ EIO) ⊎ FailsByTime base entries calls ticks
+    → error ≡ error_of fault → failures calls ≡ 0 → (error ≢ eio) ⊎ FailsByTime base entries calls ticks
 number_otherwise base (StoreFault status) goal entries calls ticks error stops is none =
     absurd (cause_fails base status entries calls ticks stops.cause none)
 number_otherwise base Memory goal entries calls ticks error stops is none =
-    inl (subst (λ (n : ℕ). n ≢ EIO) (sym is) memory_is_other)
+    inl (subst (λ (n : ℕ). n ≢ eio) (sym is) memory_is_other)
 number_otherwise base (StaleRead block expected shown begun) goal entries calls ticks error stops is none =
     inr (record { fault = StaleRead block expected shown begun; of_time = tt; cause = stops.cause })
 number_otherwise base (ClockStalled before asked after) goal entries calls ticks error stops is none =
@@ -113,9 +111,9 @@ number_otherwise base (ClockStalled before asked after) goal entries calls ticks
 answer_otherwise : (base : Base) (goal : List Outcome) (bytes : List ℕ) (entries : List Entry) (calls : List Call)
     (ticks : List Tick) (error : ℕ) (body : List ℕ) → failures calls ≡ 0
     → IsAnswer base goal bytes entries calls ticks error body
-    → (error ≢ EIO) ⊎ FailsByTime base entries calls ticks
+    → (error ≢ eio) ⊎ FailsByTime base entries calls ticks
 answer_otherwise base goal bytes entries calls ticks error body none (inl done) =
-    inl (subst (λ (n : ℕ). n ≢ EIO) (sym done.no_error) none_is_other)
+    inl (subst (λ (n : ℕ). n ≢ eio) (sym done.no_error) none_is_other)
 answer_otherwise base goal bytes entries calls ticks error body none (inr failed) =
     number_otherwise base failed.fault goal entries calls ticks error failed.stops failed.number none
 
@@ -123,15 +121,15 @@ reply_otherwise : (refused : Option ℕ) → IsOther refused
     → (base : Base) (r : Request) (error : ℕ) (body : List ℕ)
     (entries : List Entry) (calls : List Call) (ticks : List Tick) → failures calls ≡ 0
     → AnswersBy refused base r error body entries calls ticks
-    → (error ≢ EIO) ⊎ FailsByTime base entries calls ticks
+    → (error ≢ eio) ⊎ FailsByTime base entries calls ticks
 reply_otherwise (Some code) other base r error body entries calls ticks none answer =
-    inl (subst (λ (n : ℕ). n ≢ EIO) (sym answer.number) other.code)
+    inl (subst (λ (n : ℕ). n ≢ eio) (sym answer.number) other.code)
 reply_otherwise None other base r error body entries calls ticks none answer =
     answer_otherwise base (goal_of base.geometry r answer.0) (body_of r.wanted entries) entries calls ticks error body
     none answer.1
 
 replies_otherwise : (base : Base) (xs : List Exchange) → failures (calls_of xs) ≡ 0 → IsTranscript base xs
-    → AllByRecursion (λ x. (x.error ≢ EIO) ⊎ FailsByTime base x.entries x.calls x.ticks) xs
+    → AllByRecursion (λ x. (x.error ≢ eio) ⊎ FailsByTime base x.entries x.calls x.ticks) xs
 replies_otherwise base [] none answered = tt
 replies_otherwise base (x ∷ xs) none answered =
     let parts = sum_nothing (failures x.calls) (failures (calls_of xs))

@@ -35,7 +35,7 @@ use Rattle.sb_session.specs.declared.alone.TheConstants.{TRANSMISSION_FLAGS}
 use Rattle.sb_session.specs.Handshakes.{Unopened}
 use Rattle.std.proofs.Common.{inl, inr}
 use Rattle.std.specs.List.{AllByRecursion}
-use Rattle.sb_nbd.specs.declared.reply.TheConstants.{EIO}
+use Rattle.sb_nbd.specs.Numbers.{eio}
 use Rattle.sb_session.specs.Sessions.{Served}
 use Rattle.s3backer.specs.declared.settings.TheConstants.{SETTINGS}
 use Rattle.s3backer.specs.Plans.{PlanParts, naming_of}
@@ -143,7 +143,7 @@ abbrev pub NoneFailed : {base : Base} {transmission : ℕ} {before now held_befo
     → Unserved ⊎ Served base transmission before now held_before held_now ended entries calls session_ticks → Type 0
 NoneFailed (inl unserved) = Unit {0}
 NoneFailed {base} (inr served) =
-    AllByRecursion (λ x. (x.error ≢ EIO) ⊎ FailsByTime base x.entries x.calls x.ticks) served.transcript
+    AllByRecursion (λ x. (x.error ≢ eio) ⊎ FailsByTime base x.entries x.calls x.ticks) served.transcript
 
 -- over any links, clocks, sources and sinks, by what they tell and their counts of faults
 module _ {L C R S : Type 0} (log : L → Option (List Call)) (link_faults : L → ℕ) (ticks : C

@@ -5,7 +5,7 @@ use Rattle.std.specs.Int.{w16, w32, w64, to_be_bytes}
 use Rattle.sb_world.specs.Streams.{Takes, IsAtEnd}
 use Rattle.sb_nbd.specs.declared.end.NbdEnd.{NbdEnd}
 use Rattle.sb_nbd.specs.declared.end.NbdEnd.TheVariants.{Ended, Cut, BadFlags, ReadFault}
-use Rattle.sb_nbd.specs.declared.greeting.TheConstants.{MAX_FLAGS}
+use Rattle.sb_nbd.specs.Numbers.{max_flags}
 
 -- `NBDMAGIC`, `IHAVEOPT` and the flags 3
 unfoldable pub greeting_bytes : List ℕ
@@ -15,13 +15,13 @@ greeting_bytes = 78 ∷ 66 ∷ 68 ∷ 77 ∷ 65 ∷ 71 ∷ 73 ∷ 67 ∷ 73 ∷ 
 abbrev pub StopsFlags : Option (List ℕ) → List ℕ → NbdEnd → Type 0
 StopsFlags now bytes Ended = (bytes ≡ []) × IsAtEnd now
 StopsFlags now bytes (Cut got) = (length bytes ≡ got) × (0 < got) × (got < 4) × IsAtEnd now
-StopsFlags now bytes (BadFlags flags) = (bytes ≡ to_be_bytes w32 flags) × (flags < 2 ^ 32) × (MAX_FLAGS < flags)
+StopsFlags now bytes (BadFlags flags) = (bytes ≡ to_be_bytes w32 flags) × (flags < 2 ^ 32) × (max_flags < flags)
 StopsFlags now bytes ReadFault = length bytes < 4
 StopsFlags now bytes end = ⊥
 
 -- the client's flags were taken, or the bytes that end the reading
 abbrev pub ReadsFlags : Option (List ℕ) → Option (List ℕ) → Result ℕ NbdEnd → Type 0
-ReadsFlags before now (Ok flags) = Takes before now (to_be_bytes w32 flags) × (flags ≤ MAX_FLAGS)
+ReadsFlags before now (Ok flags) = Takes before now (to_be_bytes w32 flags) × (flags ≤ max_flags)
 ReadsFlags before now (Err end) = (bytes : List ℕ) × Takes before now bytes × StopsFlags now bytes end
 
 -- the size of a disk, and its transmission flags

@@ -3,7 +3,7 @@ use Rattle.std.specs.Prelude.{ℕ, ◌≡◌, ◌≢◌, ◌≤◌, ◌<◌, ◌
 use Rattle.std.specs.Int.{w64, to_be_bytes}
 use Rattle.sb_world.specs.Streams.{Takes, IsAtEnd}
 use Rattle.sb_nbd.specs.declared.option.Asked.{Asked}
-use Rattle.sb_nbd.specs.declared.option.TheConstants.{OPTION_MAGIC, MAX_OPTION}
+use Rattle.sb_nbd.specs.Numbers.{max_option, option_magic}
 use Rattle.sb_nbd.specs.declared.end.NbdEnd.{NbdEnd}
 use Rattle.sb_nbd.specs.declared.end.NbdEnd.TheVariants.{Ended, Cut, BadMagic, BadFlags, TooBig, ReadFault, WriteFault}
 use Rattle.sb_nbd.specs.Pieces.{IsShort}
@@ -16,16 +16,16 @@ IsCutOption bytes =
     ⊎ (((head : List ℕ) × (bytes ≡ options.option_magic_bytes ++ head) × (length head < 8))
     ⊎ ((a : Asked) × (payload : List ℕ) × options.FitsHead a
     × (bytes ≡ options.option_magic_bytes ++ (options.head_bytes a ++ payload))
-    × (length payload < a.length) × (a.length ≤ MAX_OPTION)))
+    × (length payload < a.length) × (a.length ≤ max_option)))
 
 -- the bytes in an option's place, of which no more were taken, end the reading so
 abbrev pub StopsOption : Option (List ℕ) → List ℕ → NbdEnd → Type 0
 StopsOption now bytes Ended = (bytes ≡ []) × IsAtEnd now
 StopsOption now bytes (Cut got) = (length bytes ≡ got) × (0 < got) × IsCutOption bytes × IsAtEnd now
-StopsOption now bytes (BadMagic magic) = (bytes ≡ to_be_bytes w64 magic) × (magic < 2 ^ 64) × (magic ≢ OPTION_MAGIC)
+StopsOption now bytes (BadMagic magic) = (bytes ≡ to_be_bytes w64 magic) × (magic < 2 ^ 64) × (magic ≢ option_magic)
 StopsOption now bytes (BadFlags flags) = ⊥
 StopsOption now bytes (TooBig length) = (a : Asked) × options.FitsHead a
-    × (bytes ≡ options.option_magic_bytes ++ options.head_bytes a) × (a.length ≡ length) × (MAX_OPTION < length)
+    × (bytes ≡ options.option_magic_bytes ++ options.head_bytes a) × (a.length ≡ length) × (max_option < length)
 StopsOption now bytes ReadFault = IsCutOption bytes
 StopsOption now bytes WriteFault = ⊥
 
@@ -53,11 +53,11 @@ ReadsHead before now (Err end) = ⊥
 
 -- the payload behind magic and head was taken, or fewer bytes; it is taken only where it isn't too long
 abbrev pub ReadsOptionPayload : Option (List ℕ) → Option (List ℕ) → Asked → Result Unit NbdEnd → List ℕ → Type 0
-ReadsOptionPayload before now a (Ok done) room = Takes before now (take a.length room) × (a.length ≤ MAX_OPTION)
+ReadsOptionPayload before now a (Ok done) room = Takes before now (take a.length room) × (a.length ≤ max_option)
 ReadsOptionPayload before now a (Err (Cut got)) room =
-    (bytes : List ℕ) × Takes before now bytes × IsShort now 16 bytes a.length got × (a.length ≤ MAX_OPTION)
+    (bytes : List ℕ) × Takes before now bytes × IsShort now 16 bytes a.length got × (a.length ≤ max_option)
 ReadsOptionPayload before now a (Err (TooBig length)) room =
-    Takes before now [] × (a.length ≡ length) × (MAX_OPTION < length)
+    Takes before now [] × (a.length ≡ length) × (max_option < length)
 ReadsOptionPayload before now a (Err ReadFault) room =
-    (bytes : List ℕ) × Takes before now bytes × (length bytes < a.length) × (a.length ≤ MAX_OPTION)
+    (bytes : List ℕ) × Takes before now bytes × (length bytes < a.length) × (a.length ≤ max_option)
 ReadsOptionPayload before now a (Err end) room = ⊥

@@ -2,11 +2,11 @@
 use Rattle.std.specs.Prelude.{ℕ, ◌≡◌, ◌≤◌, ◌<◌, ◌^◌, List, ◌++◌, length}
 use Rattle.std.specs.Int.{w32, w64, to_be_bytes}
 use Rattle.sb_nbd.specs.declared.option.Asked.{Asked}
-use Rattle.sb_nbd.specs.declared.option.TheConstants.{OPTION_MAGIC, MAX_OPTION}
+use Rattle.sb_nbd.specs.Numbers.{max_option, option_magic}
 
 -- the magic of an option
 unfoldable pub option_magic_bytes : List ℕ
-option_magic_bytes = to_be_bytes w64 OPTION_MAGIC
+option_magic_bytes = to_be_bytes w64 option_magic
 
 -- the numbers behind the magic
 unfoldable pub head_bytes : Asked → List ℕ
@@ -25,7 +25,7 @@ pub record Option : Type 0 where
 -- an option that may be read
 pub record IsOption (o : Option) : Type 0 where
   pub payload : length o.payload ≡ o.asked.length
-  pub within : o.asked.length ≤ MAX_OPTION
+  pub within : o.asked.length ≤ max_option
   pub fits : FitsHead o.asked
 
 -- the bytes of an option

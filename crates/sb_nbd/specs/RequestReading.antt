@@ -3,8 +3,7 @@ use Rattle.std.specs.Prelude.{ℕ, ◌≡◌, ◌≢◌, ◌≤◌, ◌<◌, ◌
 use Rattle.std.specs.Int.{w32, to_be_bytes}
 use Rattle.sb_world.specs.Streams.{Takes, IsAtEnd}
 use Rattle.sb_nbd.specs.declared.wanted.Wanted.{Wanted}
-use Rattle.sb_nbd.specs.declared.wanted.TheConstants.{WRITE}
-use Rattle.sb_nbd.specs.declared.request.TheConstants.{REQUEST_MAGIC, MAX_PAYLOAD}
+use Rattle.sb_nbd.specs.Numbers.{max_payload, request_magic, write_type}
 use Rattle.sb_nbd.specs.declared.end.NbdEnd.{NbdEnd}
 use Rattle.sb_nbd.specs.declared.end.NbdEnd.TheVariants.{Ended, Cut, BadMagic, BadFlags, TooBig, ReadFault, WriteFault}
 use Rattle.sb_nbd.specs.Pieces.{IsShort}
@@ -18,16 +17,16 @@ IsCutRequest bytes =
     ⊎ (((fields : List ℕ) × (bytes ≡ magic_bytes ++ fields) × (length fields < 24))
     ⊎ ((w : Wanted) × (payload : List ℕ) × FitsFields w
     × (bytes ≡ magic_bytes ++ (fields_bytes w ++ payload)) × (length payload < payload_length w)
-    × (payload_length w ≤ MAX_PAYLOAD)))
+    × (payload_length w ≤ max_payload)))
 
 -- the bytes in a request's place, of which no more were taken, end the reading so
 abbrev pub StopsRequest : Option (List ℕ) → List ℕ → NbdEnd → Type 0
 StopsRequest now bytes Ended = (bytes ≡ []) × IsAtEnd now
 StopsRequest now bytes (Cut got) = (length bytes ≡ got) × (0 < got) × IsCutRequest bytes × IsAtEnd now
-StopsRequest now bytes (BadMagic magic) = (bytes ≡ to_be_bytes w32 magic) × (magic < 2 ^ 32) × (magic ≢ REQUEST_MAGIC)
+StopsRequest now bytes (BadMagic magic) = (bytes ≡ to_be_bytes w32 magic) × (magic < 2 ^ 32) × (magic ≢ request_magic)
 StopsRequest now bytes (BadFlags flags) = ⊥
 StopsRequest now bytes (TooBig length) = (w : Wanted) × FitsFields w
-    × (bytes ≡ magic_bytes ++ fields_bytes w) × (w.kind ≡ WRITE) × (w.length ≡ length) × (MAX_PAYLOAD < length)
+    × (bytes ≡ magic_bytes ++ fields_bytes w) × (w.kind ≡ write_type) × (w.length ≡ length) × (max_payload < length)
 StopsRequest now bytes ReadFault = IsCutRequest bytes
 StopsRequest now bytes WriteFault = ⊥
 
@@ -56,12 +55,12 @@ ReadsFields before now (Err end) = ⊥
 -- the payload behind magic and fields was taken, or fewer bytes; it is taken only where it isn't too long
 abbrev pub ReadsPayload : Option (List ℕ) → Option (List ℕ) → Wanted → Result Unit NbdEnd → List ℕ → Type 0
 ReadsPayload before now w (Ok done) room =
-    Takes before now (take (payload_length w) room) × (payload_length w ≤ MAX_PAYLOAD)
+    Takes before now (take (payload_length w) room) × (payload_length w ≤ max_payload)
 ReadsPayload before now w (Err (Cut got)) room =
     (bytes : List ℕ) × Takes before now bytes × IsShort now 28 bytes (payload_length w) got
-    × (payload_length w ≤ MAX_PAYLOAD)
+    × (payload_length w ≤ max_payload)
 ReadsPayload before now w (Err (TooBig length)) room =
-    Takes before now [] × (w.kind ≡ WRITE) × (w.length ≡ length) × (MAX_PAYLOAD < length)
+    Takes before now [] × (w.kind ≡ write_type) × (w.length ≡ length) × (max_payload < length)
 ReadsPayload before now w (Err ReadFault) room =
-    (bytes : List ℕ) × Takes before now bytes × (length bytes < payload_length w) × (payload_length w ≤ MAX_PAYLOAD)
+    (bytes : List ℕ) × Takes before now bytes × (length bytes < payload_length w) × (payload_length w ≤ max_payload)
 ReadsPayload before now w (Err end) room = ⊥

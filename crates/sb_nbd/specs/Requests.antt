@@ -2,12 +2,11 @@
 use Rattle.std.specs.Prelude.{ℕ, ◌≡◌, ◌≤◌, ◌<◌, ◌^◌, nat_eq, if◌then◌else◌, List, ◌++◌, length}
 use Rattle.std.specs.Int.{w16, w32, w64, to_be_bytes}
 use Rattle.sb_nbd.specs.declared.wanted.Wanted.{Wanted}
-use Rattle.sb_nbd.specs.declared.wanted.TheConstants.{WRITE}
-use Rattle.sb_nbd.specs.declared.request.TheConstants.{REQUEST_MAGIC, MAX_PAYLOAD}
+use Rattle.sb_nbd.specs.Numbers.{max_payload, request_magic, write_type}
 
 -- the magic of a request
 unfoldable pub magic_bytes : List ℕ
-magic_bytes = to_be_bytes w32 REQUEST_MAGIC
+magic_bytes = to_be_bytes w32 request_magic
 
 -- the fields behind the magic
 unfoldable pub fields_bytes : Wanted → List ℕ
@@ -29,12 +28,12 @@ pub record Request : Type 0 where
 
 -- how many bytes follow the fields: those of a WRITE, whatever its flags
 abbrev pub payload_length : Wanted → ℕ
-payload_length w = if nat_eq w.kind WRITE then w.length else 0
+payload_length w = if nat_eq w.kind write_type then w.length else 0
 
 -- a request that may be read
 pub record IsRequest (r : Request) : Type 0 where
   pub payload : length r.payload ≡ payload_length r.wanted
-  pub within : payload_length r.wanted ≤ MAX_PAYLOAD
+  pub within : payload_length r.wanted ≤ max_payload
   pub fits : FitsFields r.wanted
 
 -- the bytes of a request

@@ -8,7 +8,7 @@ use Rattle.sb_base.specs.declared.entry.Entry.{Entry}
 use Rattle.sb_world.specs.declared.clock.Tick.{Tick}
 use Rattle.sb_world.specs.declared.link.Call.{Call}
 use Rattle.sb_nbd.specs.declared.wanted.Wanted.{Wanted}
-use Rattle.sb_nbd.specs.declared.request.TheConstants.{REQUEST_MAGIC}
+use Rattle.sb_nbd.specs.Numbers.{request_magic}
 use Rattle.sb_nbd.specs.declared.end.NbdEnd.{NbdEnd}
 use Rattle.sb_nbd.specs.declared.end.NbdEnd.TheVariants as nbd
 use Rattle.sb_nbd.specs.Requests.{magic_bytes, fields_bytes, Request, IsRequest, request_bytes}
@@ -51,11 +51,11 @@ transcript_goes_on base (x ∷ xs) answered =
     (record { request = answered.0.request; goes_on = answered.0.goes_on }, tt)
 
 magic_differs : (magic : ℕ) (r : Request) (x after : List ℕ) → magic < 2 ^ 32
-    → request_bytes r ++ x ≡ to_be_bytes w32 magic ++ after → magic ≡ REQUEST_MAGIC
+    → request_bytes r ++ x ≡ to_be_bytes w32 magic ++ after → magic ≡ request_magic
 unfolding magic_bytes
 magic_differs magic r x after fits e =
     let first = split_same magic_bytes (to_be_bytes w32 magic) _ _ refl (sym (regrouped r x) ∙ e) in
-    same_4 magic REQUEST_MAGIC fits (omega arith) (sym first.0)
+    same_4 magic request_magic fits (omega arith) (sym first.0)
 
 -- where a request stands, nothing that is none stands
 no_malformed : (r : Request) (x : List ℕ) (end : NbdEnd) → IsRequest r → IsMalformed (request_bytes r ++ x) end → ⊥

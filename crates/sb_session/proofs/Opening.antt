@@ -9,8 +9,7 @@ use Rattle.sb_world.specs.declared.clock.Tick.{Tick}
 use Rattle.sb_world.specs.declared.link.Call.{Call}
 use Rattle.sb_nbd.specs.declared.end.NbdEnd.{NbdEnd}
 use Rattle.sb_nbd.specs.declared.option.Asked.{Asked}
-use Rattle.sb_nbd.specs.declared.option.TheConstants.{EXPORT_NAME}
-use Rattle.sb_nbd.specs.declared.greeting.TheConstants.{MAX_FLAGS}
+use Rattle.sb_nbd.specs.Numbers.{export_name, max_flags}
 use Rattle.sb_nbd.specs.Options as options
 use Rattle.sb_nbd.specs.OptionReading.{StopsOption, option_in}
 use Rattle.sb_nbd.specs.Greetings.{greeting_bytes, export_bytes, StopsFlags}
@@ -46,7 +45,7 @@ flags_end geometry t a b ha hb reading held read = record {
 }
 
 pub option_ends : (geometry : Geometry) (t : ℕ) (a b c ha hb : Option (List ℕ)) (flags : ℕ)
-    (reading : NbdEnd) → Holds ha hb greeting_bytes → Takes a b (to_be_bytes w32 flags) → flags ≤ MAX_FLAGS
+    (reading : NbdEnd) → Holds ha hb greeting_bytes → Takes a b (to_be_bytes w32 flags) → flags ≤ max_flags
     → ((bytes : List ℕ) × Takes b c bytes × StopsOption c bytes reading)
     → Unopened geometry t a c ha hb (end_of reading)
 option_ends geometry t a b c ha hb flags reading held first known read = record {
@@ -69,9 +68,9 @@ option_ends geometry t a b c ha hb flags reading held first known read = record 
 
 pub option_refused : (geometry : Geometry) (t : ℕ) (a b c ha hb : Option (List ℕ)) (flags : ℕ)
     (asked : Asked) (room : List ℕ) → Holds ha hb greeting_bytes → Takes a b (to_be_bytes w32 flags)
-    → flags ≤ MAX_FLAGS
+    → flags ≤ max_flags
     → options.IsOption (option_in asked room) → Takes b c (options.option_bytes (option_in asked room))
-    → (asked.option ≡ EXPORT_NAME → 0 < asked.length) → Unopened geometry t a c ha hb Refused
+    → (asked.option ≡ export_name → 0 < asked.length) → Unopened geometry t a c ha hb Refused
 option_refused geometry t a b c ha hb flags asked room held first known is read other = record {
   bytes = to_be_bytes w32 flags ++ options.option_bytes (option_in asked room);
   out = greeting_bytes;
@@ -93,22 +92,22 @@ option_refused geometry t a b c ha hb flags asked room held first known is read 
   }))));
 }
 
-asked_is : (asked : Asked) (room : List ℕ) → asked.option ≡ EXPORT_NAME → asked.length ≡ 0
+asked_is : (asked : Asked) (room : List ℕ) → asked.option ≡ export_name → asked.length ≡ 0
     → option_in asked room ≡ export_option
 asked_is asked room option none =
     ap (λ n. record { asked = record { option = asked.option; length = n }; payload = take n room }) none
     ∙ ap (λ n. record { asked = record { option = n; length = 0 }; payload = [] }) option
 
 opening_taken : (a b c : Option (List ℕ)) (flags : ℕ) (asked : Asked) (room : List ℕ)
-    → asked.option ≡ EXPORT_NAME → asked.length ≡ 0
+    → asked.option ≡ export_name → asked.length ≡ 0
     → Takes a b (to_be_bytes w32 flags) → Takes b c (options.option_bytes (option_in asked room))
     → Takes a c (opening_bytes flags)
 opening_taken a b c flags asked room option none first read =
     takes_both first (subst (λ o. Takes b c (options.option_bytes o)) (asked_is asked room option none) read)
 
 pub export_fails : (geometry : Geometry) (t : ℕ) (a b c ha hb hc : Option (List ℕ)) (flags : ℕ)
-    (asked : Asked) (room : List ℕ) (fault : NbdEnd) → asked.option ≡ EXPORT_NAME → asked.length ≡ 0
-    → Holds ha hb greeting_bytes → Takes a b (to_be_bytes w32 flags) → flags ≤ MAX_FLAGS
+    (asked : Asked) (room : List ℕ) (fault : NbdEnd) → asked.option ≡ export_name → asked.length ≡ 0
+    → Holds ha hb greeting_bytes → Takes a b (to_be_bytes w32 flags) → flags ≤ max_flags
     → Takes b c (options.option_bytes (option_in asked room))
     → WriteHolds hb hc (Err fault) (export_bytes (geometry.block_size * geometry.blocks) t
     (wants_zeroes flags)) → Unopened geometry t a c ha hc WriteFault
@@ -127,8 +126,8 @@ export_fails geometry t a b c ha hb hc flags asked room fault option none held f
 }
 
 pub opens : (geometry : Geometry) (t : ℕ) (a b c ha hb hc : Option (List ℕ)) (flags : ℕ) (asked : Asked)
-    (room : List ℕ) → asked.option ≡ EXPORT_NAME → asked.length ≡ 0
-    → Holds ha hb greeting_bytes → Takes a b (to_be_bytes w32 flags) → flags ≤ MAX_FLAGS
+    (room : List ℕ) → asked.option ≡ export_name → asked.length ≡ 0
+    → Holds ha hb greeting_bytes → Takes a b (to_be_bytes w32 flags) → flags ≤ max_flags
     → Takes b c (options.option_bytes (option_in asked room))
     → Holds hb hc (export_bytes (geometry.block_size * geometry.blocks) t (wants_zeroes flags))
     → Opened geometry t a c ha hc

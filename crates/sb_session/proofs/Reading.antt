@@ -14,7 +14,7 @@ use Rattle.sb_base.specs.declared.entry.Entry.{Entry}
 use Rattle.sb_world.specs.declared.clock.Tick.{Tick}
 use Rattle.sb_world.specs.declared.link.Call.{Call}
 use Rattle.sb_nbd.specs.Requests.{Request}
-use Rattle.sb_nbd.specs.declared.wanted.TheConstants.{READ, WRITE, DISC}
+use Rattle.sb_nbd.specs.Numbers.{disc_type, read_type, write_type}
 use Rattle.sb_crew.specs.Bases.{Base}
 use Rattle.sb_crew.specs.declared.calls.CallFault.{CallFault}
 use Rattle.sb_crew.specs.Outcomes.{Outcome, ReadDone, outcome_of, outcomes_of, bytes_of, bytes_read, asked_of}
@@ -358,21 +358,21 @@ flush_fails base did error fault is flushed = record {
 
 -- the reply to a FLUSH
 pub flush_served : (did : List Entry → List Call → List Tick → Type 0) (base : Base) (r : Request) (error : ℕ)
-    → refusal base.geometry r.wanted ≡ None → r.wanted.kind ≢ READ → r.wanted.kind ≢ WRITE → DISC ≤ r.wanted.kind
+    → refusal base.geometry r.wanted ≡ None → r.wanted.kind ≢ read_type → r.wanted.kind ≢ write_type → disc_type ≤ r.wanted.kind
     → FlushAnswers base did error → Answers did base r error []
 flush_served did base r error served read write disc told =
     let w = r.wanted in
     let mark = told.ends.0 in
     let none : parts_asked None base.geometry r ≡ [] =
     ap (λ (t : Bool). if t then parts_of base.geometry.block_size w.offset (w.offset + w.length) else [])
-    (le-ltb w.kind DISC disc) in
+    (le-ltb w.kind disc_type disc) in
     let goal : goal_of base.geometry r mark ≡ flush_of mark =
-    ap (λ (t : Bool). if t then reads_of (parts_wanted base.geometry w) else if nat_eq w.kind WRITE then writes_of
-    (parts_wanted base.geometry w) r.payload else flush_of mark) (ne_eqb w.kind READ read)
+    ap (λ (t : Bool). if t then reads_of (parts_wanted base.geometry w) else if nat_eq w.kind write_type then writes_of
+    (parts_wanted base.geometry w) r.payload else flush_of mark) (ne_eqb w.kind read_type read)
     ∙ ap (λ (t : Bool). if t then writes_of (parts_wanted base.geometry w) r.payload else flush_of mark)
-    (ne_eqb w.kind WRITE write) in
+    (ne_eqb w.kind write_type write) in
     let body : body_of w told.entries ≡ [] =
-    ap (λ (t : Bool). if t then bytes_read told.entries else []) (ne_eqb w.kind READ read) in
+    ap (λ (t : Bool). if t then bytes_read told.entries else []) (ne_eqb w.kind read_type read) in
     let flushed : Does did (parts_asked None base.geometry r) (AnswersBy None base r error []) = record {
       entries = told.entries;
       calls = told.calls;

@@ -5,7 +5,7 @@ use Rattle.sb_base.specs.declared.part.Part.{Part}
 use Rattle.sb_base.specs.declared.entry.Entry.{Entry}
 use Rattle.sb_world.specs.declared.clock.Tick.{Tick}
 use Rattle.sb_world.specs.declared.link.Call.{Call}
-use Rattle.sb_nbd.specs.declared.reply.TheConstants.{EIO, ENOMEM}
+use Rattle.sb_nbd.specs.Numbers.{eio, enomem}
 use Rattle.sb_nbd.specs.Requests.{Request}
 use Rattle.sb_crew.specs.Bases.{Base}
 use Rattle.sb_crew.specs.declared.calls.CallFault.{CallFault}
@@ -42,10 +42,10 @@ WritesRange base did parts payload result = Does did parts (RangeWrites base par
 
 -- the error number of a fault
 abbrev pub error_of : CallFault → ℕ
-error_of (StoreFault status) = EIO
-error_of Memory = ENOMEM
-error_of (StaleRead block expected shown begun) = EIO
-error_of (ClockStalled before asked after) = EIO
+error_of (StoreFault status) = eio
+error_of Memory = enomem
+error_of (StaleRead block expected shown begun) = eio
+error_of (ClockStalled before asked after) = eio
 
 -- the goal was met, and no pause came short: error 0, and these bytes
 pub record Completes (goal : List Outcome) (bytes : List ℕ) (entries : List Entry) (ticks : List Tick) (error : ℕ)

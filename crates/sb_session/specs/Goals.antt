@@ -6,15 +6,13 @@ use Rattle.sb_base.specs.declared.part.Part.{Part}
 use Rattle.sb_base.specs.Ranges.{parts_of}
 use Rattle.sb_base.specs.declared.entry.Entry.{Entry}
 use Rattle.sb_nbd.specs.declared.wanted.Wanted.{Wanted}
-use Rattle.sb_nbd.specs.declared.wanted.TheConstants.{READ, WRITE, DISC, FLUSH}
-use Rattle.sb_nbd.specs.declared.request.TheConstants.{MAX_PAYLOAD}
-use Rattle.sb_nbd.specs.declared.reply.TheConstants.{EINVAL, ENOSPC}
+use Rattle.sb_nbd.specs.Numbers.{disc_type, einval, enospc, flush_type, max_payload, read_type, write_type}
 use Rattle.sb_nbd.specs.Requests.{Request}
 use Rattle.sb_crew.specs.Outcomes.{Outcome, ReadDone, WriteDone, flush_of, bytes_read}
 
 -- DISC, whatever its flags
 abbrev pub is_disc : Wanted → Bool
-is_disc w = nat_eq w.kind DISC
+is_disc w = nat_eq w.kind disc_type
 
 -- a range passes the end of a disk
 abbrev pub passes_end : Geometry → Wanted → Bool
@@ -24,16 +22,16 @@ passes_end geometry w = nat_lt (geometry.block_size * geometry.blocks) (w.offset
 -- a range
 abbrev pub refusal : Geometry → Wanted → Option ℕ
 refusal geometry w =
-    if nat_lt FLUSH w.kind then Some EINVAL
-    else if nat_lt 0 w.flags then Some EINVAL
-    else if nat_eq w.kind READ then (if nat_lt MAX_PAYLOAD w.length then Some EINVAL else if passes_end
-    geometry w then Some EINVAL else None)
-    else if nat_eq w.kind WRITE then (if passes_end geometry w then Some ENOSPC else None)
+    if nat_lt flush_type w.kind then Some einval
+    else if nat_lt 0 w.flags then Some einval
+    else if nat_eq w.kind read_type then (if nat_lt max_payload w.length then Some einval else if passes_end
+    geometry w then Some einval else None)
+    else if nat_eq w.kind write_type then (if passes_end geometry w then Some enospc else None)
     else None
 
 -- the parts of the disk that a READ or a WRITE is about
 abbrev pub parts_wanted : Geometry → Wanted → List Part
-parts_wanted geometry w = if nat_lt w.kind DISC then parts_of geometry.block_size w.offset
+parts_wanted geometry w = if nat_lt w.kind disc_type then parts_of geometry.block_size w.offset
     (w.offset + w.length) else []
 
 -- the reads of parts, the newest first
@@ -50,10 +48,10 @@ writes_of (part ∷ parts) payload = writes_of parts (drop part.length payload) 
 -- what a request that isn't refused wants done, the newest first; the mark is that of its flush, if it has one
 abbrev pub goal_of : Geometry → Request → ℕ → List Outcome
 goal_of geometry r mark =
-    if nat_eq r.wanted.kind READ then reads_of (parts_wanted geometry r.wanted)
-    else if nat_eq r.wanted.kind WRITE then writes_of (parts_wanted geometry r.wanted) r.payload
+    if nat_eq r.wanted.kind read_type then reads_of (parts_wanted geometry r.wanted)
+    else if nat_eq r.wanted.kind write_type then writes_of (parts_wanted geometry r.wanted) r.payload
     else flush_of mark
 
 -- the bytes of a reply without error: those that a READ read, else none
 abbrev pub body_of : Wanted → List Entry → List ℕ
-body_of w entries = if nat_eq w.kind READ then bytes_read entries else []
+body_of w entries = if nat_eq w.kind read_type then bytes_read entries else []

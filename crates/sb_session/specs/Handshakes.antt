@@ -5,8 +5,7 @@ use Rattle.sb_base.specs.declared.geometry.Geometry.{Geometry}
 use Rattle.sb_world.specs.Streams.{Takes, Holds}
 use Rattle.sb_nbd.specs.declared.end.NbdEnd.{NbdEnd}
 use Rattle.sb_nbd.specs.declared.end.NbdEnd.TheVariants as nbd
-use Rattle.sb_nbd.specs.declared.greeting.TheConstants.{MAX_FLAGS}
-use Rattle.sb_nbd.specs.declared.option.TheConstants.{EXPORT_NAME}
+use Rattle.sb_nbd.specs.Numbers.{export_name, max_flags}
 use Rattle.sb_nbd.specs.Options as options
 use Rattle.sb_nbd.specs.OptionReading.{StopsOption}
 use Rattle.sb_nbd.specs.Greetings.{greeting_bytes, export_bytes, StopsFlags}
@@ -22,7 +21,7 @@ end_of other = Refused
 
 -- EXPORT_NAME with the empty name
 abbrev pub export_option : options.Option
-export_option = record { asked = record { option = EXPORT_NAME; length = 0 }; payload = [] }
+export_option = record { asked = record { option = export_name; length = 0 }; payload = [] }
 
 -- what a client sends before its requests: its flags, and that option
 abbrev pub opening_bytes : ℕ → List ℕ
@@ -45,7 +44,7 @@ IsFrontOf front bytes = (after : List ℕ) × (bytes ≡ front ++ after)
 pub record Opened (geometry : Geometry) (transmission : ℕ)
     (before now held_before held_now : Option (List ℕ)) : Type 0 where
   pub flags : ℕ
-  pub known : flags ≤ MAX_FLAGS
+  pub known : flags ≤ max_flags
   pub taken : Takes before now (opening_bytes flags)
   pub held : Holds held_before held_now (handshake_bytes geometry transmission flags)
 
@@ -66,7 +65,7 @@ pub record FlagsEnd (now : Option (List ℕ)) (taken written : List ℕ) (end : 
 pub record OptionEnds (now : Option (List ℕ)) (taken written : List ℕ) (end : SessionEnd) : Type 0 where
   pub written_is : written ≡ greeting_bytes
   pub flags : ℕ
-  pub known : flags ≤ MAX_FLAGS
+  pub known : flags ≤ max_flags
   pub tail : List ℕ
   pub taken_is : taken ≡ to_be_bytes w32 flags ++ tail
   pub reading : NbdEnd
@@ -77,7 +76,7 @@ pub record OptionEnds (now : Option (List ℕ)) (taken written : List ℕ) (end 
 pub record OptionRefused (taken written : List ℕ) (end : SessionEnd) : Type 0 where
   pub written_is : written ≡ greeting_bytes
   pub flags : ℕ
-  pub known : flags ≤ MAX_FLAGS
+  pub known : flags ≤ max_flags
   pub option : options.Option
   pub is : options.IsOption option
   pub other : option ≢ export_option
@@ -88,7 +87,7 @@ pub record OptionRefused (taken written : List ℕ) (end : SessionEnd) : Type 0 
 pub record ExportFails (geometry : Geometry) (transmission : ℕ) (taken written : List ℕ)
     (end : SessionEnd) : Type 0 where
   pub flags : ℕ
-  pub known : flags ≤ MAX_FLAGS
+  pub known : flags ≤ max_flags
   pub taken_is : taken ≡ opening_bytes flags
   pub front : IsFrontOf written (handshake_bytes geometry transmission flags)
   pub fault : end ≡ WriteFault

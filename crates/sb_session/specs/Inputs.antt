@@ -3,8 +3,7 @@ use Rattle.std.specs.Prelude.{ℕ, ◌≡◌, ◌≢◌, ◌<◌, ◌^◌, true,
 use Rattle.std.specs.Int.{w32, to_be_bytes}
 use Rattle.std.specs.List.{AllByRecursion}
 use Rattle.sb_nbd.specs.declared.wanted.Wanted.{Wanted}
-use Rattle.sb_nbd.specs.declared.wanted.TheConstants.{WRITE}
-use Rattle.sb_nbd.specs.declared.request.TheConstants.{REQUEST_MAGIC, MAX_PAYLOAD}
+use Rattle.sb_nbd.specs.Numbers.{max_payload, request_magic, write_type}
 use Rattle.sb_nbd.specs.declared.end.NbdEnd.{NbdEnd}
 use Rattle.sb_nbd.specs.declared.end.NbdEnd.TheVariants as nbd
 use Rattle.sb_nbd.specs.Requests.{magic_bytes, fields_bytes, FitsFields, Request, IsRequest, request_bytes}
@@ -31,10 +30,10 @@ pub record IsDisc (r : Request) : Type 0 where
 -- all bytes that are left begin no request: they are cut, or have a wrong magic, or are those of too long a WRITE
 abbrev pub IsMalformed : List ℕ → NbdEnd → Type 0
 IsMalformed bytes (nbd.Cut got) = (length bytes ≡ got) × (0 < got) × IsCutRequest bytes
-IsMalformed bytes (nbd.BadMagic magic) = (after : List ℕ) × (magic < 2 ^ 32) × (magic ≢ REQUEST_MAGIC)
+IsMalformed bytes (nbd.BadMagic magic) = (after : List ℕ) × (magic < 2 ^ 32) × (magic ≢ request_magic)
     × (bytes ≡ to_be_bytes w32 magic ++ after)
-IsMalformed bytes (nbd.TooBig size) = (w : Wanted) × (after : List ℕ) × FitsFields w × (w.kind ≡ WRITE)
-    × (w.length ≡ size) × (MAX_PAYLOAD < size) × (bytes ≡ magic_bytes ++ (fields_bytes w ++ after))
+IsMalformed bytes (nbd.TooBig size) = (w : Wanted) × (after : List ℕ) × FitsFields w × (w.kind ≡ write_type)
+    × (w.length ≡ size) × (max_payload < size) × (bytes ≡ magic_bytes ++ (fields_bytes w ++ after))
 IsMalformed bytes end = ⊥
 
 -- all bytes behind the requests that were answered end the session so. After a fault of a stream, and after the last

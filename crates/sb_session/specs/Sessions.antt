@@ -4,7 +4,7 @@ use Rattle.sb_base.specs.declared.entry.Entry.{Entry}
 use Rattle.sb_world.specs.Streams.{Takes, Holds}
 use Rattle.sb_world.specs.declared.clock.Tick.{Tick}
 use Rattle.sb_world.specs.declared.link.Call.{Call}
-use Rattle.sb_nbd.specs.declared.greeting.TheConstants.{MAX_FLAGS}
+use Rattle.sb_nbd.specs.Numbers.{max_flags}
 use Rattle.sb_crew.specs.Bases.{Base}
 use Rattle.sb_session.specs.declared.end.SessionEnd.{SessionEnd}
 use Rattle.sb_session.specs.declared.end.SessionEnd.TheVariants.{WriteFault, Spent}
@@ -20,7 +20,7 @@ pub record Served (base : Base) (transmission : ℕ)
     (before now held_before held_now : Option (List ℕ)) (end : SessionEnd) (entries : List Entry)
     (calls : List Call) (ticks : List Tick) : Type 0 where
   pub flags : ℕ
-  pub known : flags ≤ MAX_FLAGS
+  pub known : flags ≤ max_flags
   pub transcript : List Exchange
   pub answered : IsTranscript base transcript
   pub entries_are : entries ≡ entries_of transcript
