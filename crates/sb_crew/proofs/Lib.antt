@@ -4,3 +4,5 @@ pub mod OutcomeLemmas
 pub mod Pausing
 pub mod Requesting
 pub mod Turning
+mod Rooms
+mod Flushing

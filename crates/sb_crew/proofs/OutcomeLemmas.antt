@@ -13,7 +13,8 @@ use Rattle.sb_crew.specs.declared.calls.CallFault.{CallFault}
 use Rattle.sb_crew.specs.declared.calls.CallFault.TheVariants.{StoreFault, Memory, StaleRead, ClockStalled}
 use Rattle.sb_crew.specs.Outcomes.{outcomes_of, bytes_read, blocks_asked, outcome_of, bytes_of, asked_of, IsBlockOf}
 use Rattle.sb_crew.specs.Outcomes.{AsksOnly, FailsBy, IsStale, IsStalled, HasCause, PausesReach, ReachesBefore}
-use Rattle.sb_crew.specs.Outcomes.{ReachesBut}
+use Rattle.sb_crew.specs.Outcomes.{NoneFail, ReachesBut}
+use Rattle.sb_crew.specs.Scenes.{Deed, followed}
 
 -- the outcomes of two runs
 pub outcomes_join : (ys xs : List Entry) → outcomes_of (ys ++ xs) ≡ outcomes_of ys ++ outcomes_of xs
@@ -49,12 +50,17 @@ asks_join parts xs ys first second =
           (all_join (IsBlockOf parts) (blocks_asked ys) (blocks_asked xs) second.asked first.asked);
     }
 
+-- no request failed in either run
+pub none_fail_join : (ys xs : List Entry) → NoneFail ys → NoneFail xs → NoneFail (ys ++ xs)
+none_fail_join [] xs first second = second
+none_fail_join (y ∷ ys) xs first second = (first.0, none_fail_join ys xs first.1 second)
+
 -- the newest entries, call and ticks are those of the later run
-fails_still : (fault : LinkFault) (xs ys : List Entry) (us vs : List Call) → FailsBy fault ys vs
+fails_still : (fault : LinkFault) (xs ys : List Entry) (us vs : List Call) → NoneFail xs → FailsBy fault ys vs
     → FailsBy fault (ys ++ xs) (vs ++ us)
-fails_still fault xs [] us vs cause = absurd cause
-fails_still fault xs (y ∷ ys) us [] cause = absurd cause
-fails_still fault xs (y ∷ ys) us (v ∷ vs) cause = cause
+fails_still fault xs [] us vs none cause = absurd cause
+fails_still fault xs (y ∷ ys) us [] none cause = absurd cause
+fails_still fault xs (y ∷ ys) us (v ∷ vs) none cause = (cause.0, cause.1, none_fail_join ys xs cause.2 none)
 
 stale_still : (base : Base) (block : ℕ) (expected shown : List ℕ) (begun : ℕ) (xs ys : List Entry)
     → IsStale base block expected shown begun ys → IsStale base block expected shown begun (ys ++ xs)
@@ -68,14 +74,17 @@ stalled_still before asked after xs [] ss ts cause = absurd cause
 stalled_still before asked after xs (y ∷ ys) ss ts cause =
     (cause.0, (cause.1.0 ++ ss, ap (λ (ticks : List Tick). ticks ++ ss) cause.1.1, cause.1.2))
 
-pub cause_stays : (base : Base) (fault : CallFault) (xs ys : List Entry) (us vs : List Call) (ss ts : List Tick)
-    → HasCause base fault ys vs ts → HasCause base fault (ys ++ xs) (vs ++ us) (ts ++ ss)
-cause_stays base (StoreFault status) xs ys us vs ss ts cause = fails_still (link.Failed status) xs ys us vs cause
-cause_stays base Memory xs ys us vs ss ts cause = fails_still link.Memory xs ys us vs cause
-cause_stays base (StaleRead block expected shown begun) xs ys us vs ss ts cause =
-    stale_still base block expected shown begun xs ys cause
-cause_stays base (ClockStalled before asked after) xs ys us vs ss ts cause =
-    stalled_still before asked after xs ys ss ts cause
+pub cause_stays : (base : Base) (fault : CallFault) (x y : Deed) → NoneFail x.entries → HasCause base fault y
+    → HasCause base fault (followed x y)
+cause_stays base (StoreFault status) x y none cause =
+    fails_still (link.Failed status) x.entries y.entries x.calls y.calls none cause
+cause_stays base Memory x y none cause = fails_still link.Memory x.entries y.entries x.calls y.calls none cause
+cause_stays base (StaleRead block expected shown begun) x y none cause =
+    (stale_still base block expected shown begun x.entries y.entries cause.0,
+    none_fail_join y.entries x.entries cause.1 none)
+cause_stays base (ClockStalled before asked after) x y none cause =
+    (stalled_still before asked after x.entries y.entries x.ticks y.ticks cause.0,
+    none_fail_join y.entries x.entries cause.1 none)
 
 -- pauses that reach, behind others that do
 pub reaches_join : (ss ts : List Tick) → PausesReach ss → PausesReach ts → PausesReach (ts ++ ss)

@@ -8,10 +8,11 @@ use Rattle.sb_world.specs.declared.clock.Tick.TheVariants as tick
 use Rattle.sb_world.specs.declared.link.Call.{Call}
 use Rattle.sb_history.specs.ClockTrace.{PauseTicks}
 use Rattle.sb_crew.specs.Bases.{Base}
+use Rattle.sb_crew.specs.Scenes.{deed_of}
 use Rattle.sb_crew.specs.declared.calls.CallFault.{CallFault}
-use Rattle.sb_crew.specs.Outcomes.{PausesFor, HasCause, ReachesBut, IsOfNoRead}
+use Rattle.sb_crew.specs.Outcomes.{PausesFor, HasCause, NoneFail, ReachesBut, IsOfNoRead}
 use Rattle.sb_crew.specs.Runs.{next_ticks}
-use Rattle.sb_crew.specs.Turns.{next_of, HasCauseIf, KeepsReaching, Pauses, PauseEnds}
+use Rattle.sb_crew.specs.Turns.{next_of, RequestEnds, KeepsReaching, Pauses, PauseEnds}
 
 -- the ticks of a pause in a trace, the next reading, and the cause where it comes short
 pub record IsPaused (clock clock' : Option (List Tick)) (now millis : ℕ) (result : Result ℕ CallFault) : Type 0 where
@@ -19,8 +20,8 @@ pub record IsPaused (clock clock' : Option (List Tick)) (now millis : ℕ) (resu
   pub paused : PauseTicks true now (next_of result) (Some millis) after
   pub readings : Gains clock clock' (next_ticks (next_of result) ++ after)
   pub cause : (base : Base) (entry : Entry) (entries : List Entry) (calls : List Call) (ticks : List Tick)
-      → PausesFor now millis entry.kind
-      → HasCauseIf base (entry ∷ entries) calls (after ++ tick.Taken now ∷ ticks) result
+      → PausesFor now millis entry.kind → NoneFail (entry ∷ entries)
+      → RequestEnds base (deed_of (entry ∷ entries) calls (after ++ tick.Taken now ∷ ticks)) result
   pub reaches : KeepsReaching now after result
 
 pub is_paused : (clock clock' : Option (List Tick)) (now millis : ℕ) (result : Result ℕ CallFault) (ticks : List Tick)
@@ -29,17 +30,17 @@ is_paused clock clock' now millis (Ok next) ticks gained ends = record {
   after = tick.Paused millis ∷ [];
   paused = inl (refl, ends.1);
   readings = subst (Gains clock clock') ends.0 gained;
-  cause = λ base entry entries calls ticks pauses. tt;
+  cause = λ base entry entries calls ticks pauses none. none;
   reaches = λ earlier reached. (ends.1, reached);
 }
 is_paused clock clock' now millis (Err fault) ticks gained ends = record {
   after = tick.Taken ends.0 ∷ tick.Paused millis ∷ [];
   paused = inr (ends.0, ends.2, refl);
   readings = subst (Gains clock clock') ends.3 gained;
-  cause = λ base entry entries calls earlier pauses.
+  cause = λ base entry entries calls earlier pauses none.
       let behind = tick.Taken ends.0 ∷ tick.Paused millis ∷ tick.Taken now ∷ earlier in
-      subst (λ (f : CallFault). HasCause base f (entry ∷ entries) calls behind) (sym ends.1)
-      (pauses, (earlier, refl, ends.2));
+      subst (λ (f : CallFault). HasCause base f (deed_of (entry ∷ entries) calls behind)) (sym ends.1)
+      ((pauses, (earlier, refl, ends.2)), none);
   reaches = λ earlier reached.
       let behind = tick.Taken ends.0 ∷ tick.Paused millis ∷ tick.Taken now ∷ earlier in
       subst (λ (f : CallFault). ReachesBut f behind) (sym ends.1) reached;

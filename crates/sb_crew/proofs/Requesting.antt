@@ -8,6 +8,7 @@ use Rattle.std.proofs.lemmas.Grind.{common_steps}
 use Rattle.sb_base.specs.declared.line.Expect.{Expect}
 use Rattle.sb_base.specs.declared.entry.Shown.TheVariants as shown
 use Rattle.sb_base.specs.declared.entry.Entry.{Entry}
+use Rattle.sb_base.specs.declared.entry.EntryKind.TheVariants as kind
 use Rattle.sb_world.specs.Told.{Gains, CountsFaults}
 use Rattle.sb_world.specs.Calls.{get_reply, HasFailed, IsAsked}
 use Rattle.sb_world.specs.declared.clock.Tick.{Tick}
@@ -31,6 +32,7 @@ use Rattle.sb_core.specs.declared.step.GetDone.TheVariants as done
 use Rattle.sb_core.specs.States.{OpenGet}
 use Rattle.sb_core.specs.Represents.{open_get, geometry_of, settings_of}
 use Rattle.sb_core.specs.Steps.{HasGet, judged, is_taken, get_end_entry}
+use Rattle.sb_crew.specs.Scenes.{disk_at, scene_at, deed_of}
 use Rattle.sb_crew.specs.declared.calls.CallFault.{CallFault}
 use Rattle.sb_crew.specs.declared.calls.CallFault.TheVariants.{StoreFault, Memory, StaleRead, ClockStalled}
 use Rattle.sb_crew.specs.Names.{Naming, name_of}
@@ -40,7 +42,7 @@ use Rattle.sb_crew.specs.Bases.{Base, base_of}
 use Rattle.sb_crew.specs.Outcomes.{IsLongExpected, HasCause, PausesReach, ReachesBut, IsOfNoRead}
 use Rattle.sb_crew.specs.Joins.{gains_nothing}
 use Rattle.sb_crew.specs.Runs.{next_ticks, Event}
-use Rattle.sb_crew.specs.Turns.{next_of, HasCauseIf, KeepsReaching, get_begun, get_ended, FetchDoes, Pauses, put_sent}
+use Rattle.sb_crew.specs.Turns.{next_of, RequestEnds, KeepsReaching, get_begun, get_ended, FetchDoes, Pauses, put_sent}
 use Rattle.sb_crew.specs.Turns.{put_ended, StoreDoes}
 use Rattle.sb_crew.proofs.Pausing.{pause_is}
 
@@ -142,6 +144,11 @@ long_expected : (limit begun : ℕ) (expect : Option Expect) (expected : List �
 long_expected limit begun None expected is late = is
 long_expected limit begun (Some expect) expected is late = (is, leb-true (expect.since + limit) begun late)
 
+-- a failure isn't judged as taken
+failed_is_not_taken : (expect : Option Expect) → judged expect None ≡ done.Taken → ⊥
+failed_is_not_taken None taken = absurd (cc)
+failed_is_not_taken (Some expect) taken = absurd (cc)
+
 -- an answer with a digest isn't judged as a failure
 judged_some : (expect : Option Expect) (digest : List ℕ) → judged expect (Some digest) ≡ done.Failed → ⊥
 judged_some None digest failed = absurd (cc)
@@ -168,11 +175,33 @@ failure_agrees limit begun block_size (Some expect) verify differs = differs
 -- a fault of the link is the cause of a call that failed by it
 pub fails_by : (base : Base) (fault : LinkFault) (ended : CallFault) (entry : Entry) (entries : List Entry)
     (asked : Call) (calls : List Call) (ticks : List Tick) → ended ≡ fault_for fault → outcome.IsFailure entry.kind
-    → outcome.fault_of asked ≡ Some fault → HasCause base ended (entry ∷ entries) (asked ∷ calls) ticks
-fails_by base (link.Failed status) ended entry entries asked calls ticks is failure cause =
-    subst (λ (f : CallFault). HasCause base f (entry ∷ entries) (asked ∷ calls) ticks) (sym is) (failure, cause)
-fails_by base link.Memory ended entry entries asked calls ticks is failure cause =
-    subst (λ (f : CallFault). HasCause base f (entry ∷ entries) (asked ∷ calls) ticks) (sym is) (failure, cause)
+    → outcome.fault_of asked ≡ Some fault → outcome.NoneFail entries
+    → HasCause base ended (deed_of (entry ∷ entries) (asked ∷ calls) ticks)
+fails_by base (link.Failed status) ended entry entries asked calls ticks is failure cause none =
+    subst (λ (f : CallFault). HasCause base f (deed_of (entry ∷ entries) (asked ∷ calls) ticks)) (sym is)
+    (failure, cause, none)
+fails_by base link.Memory ended entry entries asked calls ticks is failure cause none =
+    subst (λ (f : CallFault). HasCause base f (deed_of (entry ∷ entries) (asked ∷ calls) ticks)) (sym is)
+    (failure, cause, none)
+
+-- an answer that has a digest is no failure, and neither is one that was taken
+digest_none_fails : (block_size block : ℕ) (verify : Option (List ℕ)) (answered : Result Got LinkFault)
+    (bytes shown : List ℕ) (taken : Bool) → answer_digest block_size verify (shown_for answered bytes) ≡ Some shown
+    → outcome.IsFailure (kind.GetEnd block (shown_for answered bytes) verify taken) → ⊥
+digest_none_fails block_size block verify (Ok got.Absent) bytes shown taken is fails = fails
+digest_none_fails block_size block verify (Ok got.Bytes) bytes shown taken is fails = fails
+digest_none_fails block_size block verify (Ok got.Same) bytes shown taken is fails = fails
+digest_none_fails block_size block verify (Err fault) bytes shown taken is fails = cc
+
+taken_none_fails : (block_size block : ℕ) (expect : Option Expect) (verify : Option (List ℕ))
+    (answered : Result Got LinkFault) (bytes : List ℕ) (taken : Bool)
+    → judged expect (answer_digest block_size verify (shown_for answered bytes)) ≡ done.Taken
+    → outcome.IsFailure (kind.GetEnd block (shown_for answered bytes) verify taken) → ⊥
+taken_none_fails block_size block expect verify (Ok got.Absent) bytes taken is fails = fails
+taken_none_fails block_size block expect verify (Ok got.Bytes) bytes taken is fails = fails
+taken_none_fails block_size block expect verify (Ok got.Same) bytes taken is fails = fails
+taken_none_fails block_size block expect verify (Err fault) bytes taken is fails = failed_is_not_taken expect is
+
 
 -- a request of the link that failed leaves no pause that came short
 pub reaches_by : (fault : LinkFault) (ended : CallFault) (ticks : List Tick) → ended ≡ fault_for fault
@@ -189,15 +218,16 @@ module _ {names names' : Naming} {core core' : Core} {tape tape' : Option (List 
       (result : Result ℕ CallFault) (pause : Option ℕ) (after : List Tick) → HasGet core 1 job
       → Gains log log' (call.Get (name_of names job.block) job.verify (get_reply answered bytes) ∷ [])
       → CountsFaults faults faults' (HasFailed answered) → Gains clock between (tick.Taken later ∷ [])
-      → Event names names' core core' tape tape' later (get_end_entry 1 reading job (shown_for answered bytes) outcome)
+      → Event (disk_at names core tape) (disk_at names' core' tape') later (get_end_entry 1 reading job (shown_for answered bytes) outcome)
       → PausesWhere (DiffersInTime (settings_of core).stale_limit job.begun job.expect
       (answer_digest (geometry_of core).block_size job.verify (shown_for answered bytes))) 100 pause
       → PauseTicks true later (next_of result) pause after
       → Gains between clock' (next_ticks (next_of result) ++ after)
-      → HasCauseIf (base_of core) (get_ended job reading answered bytes (is_taken outcome) ∷ get_begun job ∷ [])
+      → RequestEnds (base_of core)
+      (deed_of (get_ended job reading answered bytes (is_taken outcome) ∷ get_begun job ∷ [])
       (call.Get (name_of names job.block) job.verify (get_reply answered bytes) ∷ [])
-      (after ++ tick.Taken later ∷ []) result → KeepsReaching later after result
-      → FetchDoes names names' core core' tape tape' clock clock' log log' faults faults' job result
+      (after ++ tick.Taken later ∷ [])) result → KeepsReaching later after result
+      → FetchDoes (scene_at names core tape log faults clock) (scene_at names' core' tape' log' faults' clock') job result
   fetch_does {between = between} job answered bytes later reading outcome result pause after opened called counted
       took event pauses paused
       readings cause reaches = record {
@@ -229,24 +259,25 @@ module _ {names names' : Naming} {core core' : Core} {tape tape' : Option (List 
       (outcome : GetDone) (next : ℕ) → HasGet core 1 job
       → Gains log log' (call.Get (name_of names job.block) job.verify (get_reply answered bytes) ∷ [])
       → CountsFaults faults faults' (HasFailed answered) → Gains clock between (tick.Taken later ∷ [])
-      → Event names names' core core' tape tape' later (get_end_entry 1 reading job (shown_for answered bytes) outcome)
+      → Event (disk_at names core tape) (disk_at names' core' tape') later (get_end_entry 1 reading job (shown_for answered bytes) outcome)
       → outcome ≡ judged job.expect (answer_digest (geometry_of core).block_size job.verify (shown_for answered bytes))
       → outcome ≡ done.Taken → Gains between clock' (tick.Taken next ∷ [])
-      → FetchDoes names names' core core' tape tape' clock clock' log log' faults faults' job (Ok next)
+      → FetchDoes (scene_at names core tape log faults clock) (scene_at names' core' tape' log' faults' clock') job (Ok next)
   fetch_taken job answered bytes later reading outcome next opened called counted took event answer is readings =
       fetch_does job answered bytes later reading outcome (Ok next) None [] opened called counted took event
-      (taken_agrees (settings_of core).stale_limit job.begun job.expect _ (sym answer ∙ is)) refl readings tt
-      (λ earlier reached. reached)
+      (taken_agrees (settings_of core).stale_limit job.begun job.expect _ (sym answer ∙ is)) refl readings
+      (taken_none_fails (geometry_of core).block_size job.block job.expect job.verify answered bytes (is_taken outcome)
+      (sym answer ∙ is), ((λ fails. fails), tt)) (λ earlier reached. reached)
 
   -- it failed
   pub fetch_failed : (job : GetJob) (cause : LinkFault) (fault : CallFault) (bytes : List ℕ) (later reading : ℕ)
       (outcome : GetDone) → HasGet core 1 job
       → Gains log log' (call.Get (name_of names job.block) job.verify (get_reply (Err cause) bytes) ∷ [])
       → CountsFaults faults faults' (HasFailed {T = Got} (Err cause)) → Gains clock clock' (tick.Taken later ∷ [])
-      → Event names names' core core' tape tape' later
+      → Event (disk_at names core tape) (disk_at names' core' tape') later
       (get_end_entry 1 reading job (shown_for (Err cause) bytes) outcome)
       → fault ≡ fault_for cause
-      → FetchDoes names names' core core' tape tape' clock clock' log log' faults faults' job (Err fault)
+      → FetchDoes (scene_at names core tape log faults clock) (scene_at names' core' tape' log' faults' clock') job (Err fault)
   fetch_failed job cause fault bytes later reading outcome opened called counted took event is = record {
     got = Err cause;
     bytes = bytes;
@@ -269,7 +300,7 @@ module _ {names names' : Naming} {core core' : Core} {tape tape' : Option (List 
     };
     cause = fails_by (base_of core) cause fault (get_ended job reading (Err cause) bytes (is_taken outcome))
         (get_begun job ∷ []) (call.Get (name_of names job.block) job.verify (get_reply (Err cause) bytes)) []
-        (tick.Taken later ∷ []) is tt refl;
+        (tick.Taken later ∷ []) is tt refl ((λ fails. fails), tt);
     reaches = λ earlier reached. reaches_by cause fault (tick.Taken later ∷ earlier) is reached;
   }
 
@@ -278,11 +309,11 @@ module _ {names names' : Naming} {core core' : Core} {tape tape' : Option (List 
       (outcome : GetDone) (expected shown : List ℕ) → HasGet core 1 job
       → Gains log log' (call.Get (name_of names job.block) job.verify (get_reply answered bytes) ∷ [])
       → CountsFaults faults faults' (HasFailed answered) → Gains clock clock' (tick.Taken later ∷ [])
-      → Event names names' core core' tape tape' later (get_end_entry 1 reading job (shown_for answered bytes) outcome)
+      → Event (disk_at names core tape) (disk_at names' core' tape') later (get_end_entry 1 reading job (shown_for answered bytes) outcome)
       → outcome ≡ judged job.expect (answer_digest (geometry_of core).block_size job.verify (shown_for answered bytes))
       → outcome ≡ done.Stale expected shown
       → is_late (settings_of core).stale_limit job.begun job.expect ≡ true
-      → FetchDoes names names' core core' tape tape' clock clock' log log' faults faults' job
+      → FetchDoes (scene_at names core tape log faults clock) (scene_at names' core' tape' log' faults' clock') job
       (Err (StaleRead job.block expected shown job.begun))
   fetch_stale job answered bytes later reading outcome expected shown opened called counted took event answer is late =
       let other = shows_other job.expect
@@ -309,10 +340,17 @@ module _ {names names' : Naming} {core core' : Core} {tape tape' : Option (List 
           readings = gains_nothing clock';
         };
         cause = (
-          (refl, ap is_taken is, other.digest_is),
-          (refl, long_expected (settings_of core).stale_limit job.begun job.expect expected other.expected_is late),
-          refl,
-          other.other,
+          (
+            (refl, ap is_taken is, other.digest_is),
+            (refl, long_expected (settings_of core).stale_limit job.begun job.expect expected other.expected_is late),
+            refl,
+            other.other,
+          ),
+          (
+            digest_none_fails (geometry_of core).block_size job.block job.verify answered bytes shown (is_taken outcome)
+                other.digest_is,
+            ((λ fails. fails), tt),
+          ),
         );
         reaches = λ earlier reached. reached;
       }
@@ -324,12 +362,12 @@ module _ {names names' : Naming} {core core' : Core} {tape tape' : Option (List 
       → HasGet core 1 job
       → Gains log log' (call.Get (name_of names job.block) job.verify (get_reply answered bytes) ∷ [])
       → CountsFaults faults faults' (HasFailed answered) → Gains clock between (tick.Taken later ∷ [])
-      → Event names names' core core' tape tape' later (get_end_entry 1 reading job (shown_for answered bytes) outcome)
+      → Event (disk_at names core tape) (disk_at names' core' tape') later (get_end_entry 1 reading job (shown_for answered bytes) outcome)
       → outcome ≡ judged job.expect (answer_digest (geometry_of core).block_size job.verify (shown_for answered bytes))
       → outcome ≡ done.Stale expected shown
       → is_late (settings_of core).stale_limit job.begun job.expect ≡ false
       → Pauses between clock' latest latest' later 100 result
-      → FetchDoes names names' core core' tape tape' clock clock' log log' faults faults' job result
+      → FetchDoes (scene_at names core tape log faults clock) (scene_at names' core' tape' log' faults' clock') job result
   fetch_paused job answered bytes later reading outcome expected shown result opened called counted took event answer
       is late
       pauses =
@@ -342,7 +380,9 @@ module _ {names names' : Naming} {core core' : Core} {tape tape' : Option (List 
       (differs_in_time (settings_of core).stale_limit job.begun job.expect _ expected shown late other, refl)
       paused.paused paused.readings
       (paused.cause (base_of core) (get_ended job reading answered bytes (is_taken outcome)) (get_begun job ∷ [])
-      (call.Get (name_of names job.block) job.verify (get_reply answered bytes) ∷ []) [] (ap is_taken is, refl))
+      (call.Get (name_of names job.block) job.verify (get_reply answered bytes) ∷ []) [] (ap is_taken is, refl)
+      (digest_none_fails (geometry_of core).block_size job.block job.verify answered bytes shown (is_taken outcome)
+      other.digest_is, ((λ fails. fails), tt)))
       paused.reaches
 
 -- a put that failed says its fault, as a delete or as a put
@@ -358,10 +398,10 @@ request_reads_nothing link.Memory ended is = subst IsOfNoRead (sym is) tt
 
 -- neither does a PUT
 pub put_reads_nothing : (base : Base) (fault : CallFault) (entry : Entry) (calls : List Call) (ticks : List Tick)
-    → HasCause base fault (entry ∷ []) calls ticks → IsOfNoRead fault
+    → HasCause base fault (deed_of (entry ∷ []) calls ticks) → IsOfNoRead fault
 put_reads_nothing base (StoreFault status) entry calls ticks cause = tt
 put_reads_nothing base Memory entry calls ticks cause = tt
-put_reads_nothing base (StaleRead block expected shown begun) entry calls ticks cause = cause
+put_reads_nothing base (StaleRead block expected shown begun) entry calls ticks cause = cause.0
 put_reads_nothing base (ClockStalled before asked after) entry calls ticks cause = tt
 
 -- what a PUT did
@@ -370,9 +410,9 @@ module _ {names names' : Naming} {core core' : Core} {tape tape' : Option (List 
   pub stored : {between : Option (List Tick)} (block : ℕ) (content : List ℕ) (later reading next : ℕ)
       → Gains log log' (put_sent names block content (Ok tt) ∷ [])
       → CountsFaults faults faults' (HasFailed {T = Unit} (Ok tt)) → Gains clock between (tick.Taken later ∷ [])
-      → Event names names' core core' tape tape' later (put_ended block reading (Ok tt))
+      → Event (disk_at names core tape) (disk_at names' core' tape') later (put_ended block reading (Ok tt))
       → Gains between clock' (tick.Taken next ∷ [])
-      → StoreDoes names names' core core' tape tape' clock clock' log log' faults faults' block content (Ok next)
+      → StoreDoes (scene_at names core tape log faults clock) (scene_at names' core' tape' log' faults' clock') block content (Ok next)
   stored {between = between} block content later reading next called counted took event readings = record {
     sent = Ok tt;
     called = called;
@@ -389,16 +429,16 @@ module _ {names names' : Naming} {core core' : Core} {tape tape' : Option (List 
       paused = refl;
       readings = readings;
     };
-    cause = tt;
+    cause = ((λ fails. cc), tt);
     reaches = λ earlier reached. reached;
   }
 
   pub store_failed : (block : ℕ) (content : List ℕ) (cause : LinkFault) (fault : CallFault) (later reading : ℕ)
       → Gains log log' (put_sent names block content (Err cause) ∷ [])
       → CountsFaults faults faults' (HasFailed {T = Unit} (Err cause)) → Gains clock clock' (tick.Taken later ∷ [])
-      → Event names names' core core' tape tape' later (put_ended block reading (Err cause))
+      → Event (disk_at names core tape) (disk_at names' core' tape') later (put_ended block reading (Err cause))
       → fault ≡ fault_for cause
-      → StoreDoes names names' core core' tape tape' clock clock' log log' faults faults' block content (Err fault)
+      → StoreDoes (scene_at names core tape log faults clock) (scene_at names' core' tape' log' faults' clock') block content (Err fault)
   store_failed block content cause fault later reading called counted took event is = record {
     sent = Err cause;
     called = called;
@@ -417,6 +457,6 @@ module _ {names names' : Naming} {core core' : Core} {tape tape' : Option (List 
     };
     cause = fails_by (base_of core) cause fault (put_ended block reading (Err cause)) []
         (put_sent names block content (Err cause)) [] (tick.Taken later ∷ []) is refl
-        (put_fault (is_zeros content) (name_of names block) (meta_of (Some names.meta) block) content (Some cause));
+        (put_fault (is_zeros content) (name_of names block) (meta_of (Some names.meta) block) content (Some cause)) tt;
     reaches = λ earlier reached. reaches_by cause fault (tick.Taken later ∷ earlier) is reached;
   }

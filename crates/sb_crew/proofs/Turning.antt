@@ -1,7 +1,7 @@
 -- What a call did so far, after one turn more.
 use Rattle.std.proofs.Common.{ℕ, ◌≡◌, Bool, true, false, nat_eq, if◌then◌else◌, List, [], ◌∷◌, ◌++◌, Option, Some, None}
 use Rattle.std.proofs.Common.{Result, Ok, Err, IsSome, is_some, length, is_ok, is_none, refl, sym, ◌∙◌, ap, subst, ◌+◌}
-use Rattle.std.proofs.Common.{◌-◌, ◌^◌, ◌≤◌, ◌⊎◌, inl, inr, arith, append_assoc}
+use Rattle.std.proofs.Common.{◌-◌, ◌^◌, ◌<◌, ◌≤◌, ◌⊎◌, inl, inr, arith, append_assoc}
 use mathlib.Core.Logic.{dite}
 use Rattle.std.proofs.Math.Decide.{dec_le}
 use Rattle.std.proofs.Math.Nat.{min-eq_left, min-eq_right, lt_of_not-le}
@@ -32,6 +32,7 @@ use Rattle.sb_core.specs.declared.machine.Core.{Core}
 use Rattle.sb_core.specs.declared.job.GetJob.{GetJob}
 use Rattle.sb_core.specs.Represents.{geometry_of, settings_of}
 use Rattle.sb_core.specs.Progress.{SameBase}
+use Rattle.sb_crew.specs.Scenes.{deed_of, disk_at, scene_at, nothing, Deed}
 use Rattle.sb_crew.specs.Bases.{Base, base_of}
 use Rattle.sb_crew.specs.declared.calls.CallFault.{CallFault}
 use Rattle.sb_crew.specs.Counts.{is_failure, Counts, Asked}
@@ -39,7 +40,7 @@ use Rattle.sb_crew.specs.Names.{Naming, name_of}
 use Rattle.sb_crew.specs.Answers.{shown_for}
 use Rattle.sb_crew.specs.Outcomes as outcome
 use Rattle.sb_crew.specs.Outcomes.{Outcome, outcomes_of, outcome_of, bytes_read, bytes_of, asked_of, blocks_asked}
-use Rattle.sb_crew.specs.Outcomes.{IsBlockOf, AsksOnly, HasCause, PausesReach, ReachesBut, Does, FlushBegun}
+use Rattle.sb_crew.specs.Outcomes.{IsBlockOf, AsksOnly, IsFailure, NoneFail, HasCause, Meets, Stops, Does, FlushBegun}
 use Rattle.sb_crew.specs.Runs.{any_past, HasBegun, next_ticks, Event, EventWhere, TurnWhere, Did, DidWhere}
 use Rattle.sb_crew.specs.Turns.{SoFar, next_of, Waits, get_begun, get_ended, FetchDoes, put_sent, put_ended}
 use Rattle.sb_crew.specs.Turns.{StoreDoes}
@@ -143,12 +144,12 @@ get_fault name verify (Err fault) bytes = refl
 -- a turn of an event that no pause follows
 plain_turn : {Then : List Entry → Type 0} {names names' : Naming} {core core' : Core} {tape tape' : Option (List Entry)}
     {clock clock' : Option (List Tick)} {now : ℕ} {entry other : Entry} (next : Option ℕ) → entry ≡ other
-    → EventWhere Then names names' core core' tape tape' now entry
+    → EventWhere Then (disk_at names core tape) (disk_at names' core' tape') now entry
     → ((past : List Entry) → PausesAfter (geometry_of core) (settings_of core) past now other.kind None)
     → Gains clock clock' (next_ticks next ++ [])
-    → TurnWhere Then names names' core core' tape tape' clock clock' now other next []
+    → TurnWhere Then (disk_at names core tape) (disk_at names' core' tape') clock clock' now other next []
 plain_turn {Then} {names} {names'} {core} {core'} {tape} {tape'} {now = now} next same event plain gains = record {
-  event = subst (λ (e : Entry). EventWhere Then names names' core core' tape tape' now e) same event;
+  event = subst (λ (e : Entry). EventWhere Then (disk_at names core tape) (disk_at names' core' tape') now e) same event;
   pause = None;
   pauses = λ past is stands. plain past;
   paused = refl;
@@ -159,12 +160,12 @@ plain_turn {Then} {names} {names'} {core} {core'} {tape} {tape'} {now = now} nex
 wait_turn : {Then : List Entry → Type 0} {names1 names2 : Naming} {b c : Core} {tape1 tape2 : Option (List Entry)}
     {clock1 clock2 : Option (List Tick)} {latest latest' now : ℕ} {entry : Entry} {result : Result ℕ CallFault}
     (reading : ℕ) (why : Why) → entry ≡ event reading (kind.Waited why)
-    → EventWhere Then names1 names2 b c tape1 tape2 now entry
+    → EventWhere Then (disk_at names1 b tape1) (disk_at names2 c tape2) now entry
     → (waits : Waits clock1 clock2 latest latest' now why result)
-    → TurnWhere Then names1 names2 b c tape1 tape2 clock1 clock2 now (event reading (kind.Waited why))
+    → TurnWhere Then (disk_at names1 b tape1) (disk_at names2 c tape2) clock1 clock2 now (event reading (kind.Waited why))
     (next_of result) (pause_is waits.paused).after
 wait_turn {Then} {names1} {names2} {b} {c} {tape1} {tape2} {now = now} reading why is did waits = record {
-  event = subst (λ (e : Entry). EventWhere Then names1 names2 b c tape1 tape2 now e) is did;
+  event = subst (λ (e : Entry). EventWhere Then (disk_at names1 b tape1) (disk_at names2 c tape2) now e) is did;
   pause = Some waits.millis;
   pauses = λ past fits stands. sym waits.pause_is;
   paused = (pause_is waits.paused).paused;
@@ -174,15 +175,14 @@ wait_turn {Then} {names1} {names2} {b} {c} {tape1} {tape2} {now = now} reading w
 -- before its first turn a call has done nothing
 pub starts : {names : Naming} {a : Core} {tape : Option (List Entry)} {log : Option (List Call)} {faults : ℕ}
     {clock clock1 : Option (List Tick)} {parts : List Part} {now : ℕ} → Gains clock clock1 (tick.Taken now ∷ [])
-    → SoFar any_past [] names names a a tape tape log log faults faults clock clock1 parts now
+    → SoFar any_past [] (scene_at names a tape log faults clock) (scene_at names a tape log faults clock1) parts now
 starts {now = now} gains = record {
-  entries = [];
-  calls = [];
-  ticks = [];
+  deed = nothing;
   done = did_begin (Some now) gains;
   met_so = refl;
   no_bytes = refl;
   reached = tt;
+  none_fail = tt;
   asks = record { asked = tt };
   leads = λ past. tt;
 }
@@ -193,82 +193,78 @@ module _ {Then : List Entry → Type 0} {met : List Outcome} {names names1 : Nam
     {clock clock1 : Option (List Tick)} {parts : List Part} {now : ℕ} where
   one_turn : {names2 : Naming} {c : Core} {tape2 : Option (List Entry)} {clock2 : Option (List Tick)}
       {next : Option ℕ} {after : List Tick} {entry : Entry}
-      (before : SoFar Then met names names1 a b tape tape1 log log1 faults faults1 clock clock1 parts now)
-      → TurnWhere Then names1 names2 b c tape1 tape2 clock1 clock2 now entry next after
+      (before : SoFar Then met (scene_at names a tape log faults clock) (scene_at names1 b tape1 log1 faults1 clock1) parts now)
+      → TurnWhere Then (disk_at names1 b tape1) (disk_at names2 c tape2) clock1 clock2 now entry next after
       → RequestLog (name_of names) (Some names.meta) (entry ∷ []) []
-      → DidWhere any_past names names2 a c tape tape2 log log1 faults faults1 clock clock2 (entry ∷ before.entries)
-      before.calls (after ++ tick.Taken now ∷ before.ticks) next
+      → DidWhere any_past (scene_at names a tape log faults clock) (scene_at names2 c tape2 log1 faults1 clock2) (deed_of (entry ∷ before.deed.entries) before.deed.calls (after ++ tick.Taken now ∷ before.deed.ticks)) next
   one_turn {entry = entry} before turn quiet = record {
     runs = turn_joins (λ past fits. before.leads past) before.done.runs turn;
     asked = before.done.asked;
-    requests = requests_join (name_of names) (Some names.meta) before.entries (entry ∷ []) before.calls []
+    requests = requests_join (name_of names) (Some names.meta) before.deed.entries (entry ∷ []) before.deed.calls []
         before.done.requests quiet;
   }
 
   two_turns : {names2 names3 : Naming} {c d : Core} {tape2 tape3 : Option (List Entry)}
       {log3 : Option (List Call)} {faults3 : ℕ} {between clock3 : Option (List Tick)} {next : Option ℕ}
       {after : List Tick} {first second : Entry} {later : ℕ} {asked : Call}
-      (before : SoFar Then met names names1 a b tape tape1 log log1 faults faults1 clock clock1 parts now)
-      → TurnWhere Then names1 names2 b c tape1 tape2 clock1 between now first (Some later) []
-      → TurnWhere any_past names2 names3 c d tape2 tape3 between clock3 later second next after
+      (before : SoFar Then met (scene_at names a tape log faults clock) (scene_at names1 b tape1 log1 faults1 clock1) parts now)
+      → TurnWhere Then (disk_at names1 b tape1) (disk_at names2 c tape2) clock1 between now first (Some later) []
+      → TurnWhere any_past (disk_at names2 c tape2) (disk_at names3 d tape3) between clock3 later second next after
       → Asked log1 log3 faults1 faults3 (asked ∷ [])
       → RequestLog (name_of names2) (Some names2.meta) (second ∷ first ∷ []) (asked ∷ [])
-      → DidWhere any_past names names3 a d tape tape3 log log3 faults faults3 clock clock3
-      (second ∷ first ∷ before.entries) (asked ∷ before.calls)
-      (after ++ tick.Taken later ∷ tick.Taken now ∷ before.ticks) next
+      → DidWhere any_past (scene_at names a tape log faults clock) (scene_at names3 d tape3 log3 faults3 clock3) (deed_of (second ∷ first ∷ before.deed.entries) (asked ∷ before.deed.calls) (after ++ tick.Taken later ∷ tick.Taken now ∷ before.deed.ticks)) next
   two_turns {log3 = log3} {faults3 = faults3} {first = first} {second = second} {asked = asked} before begun ended
       called requests =
       let same = begun.event.same_names ∙ before.done.runs.same_names in
       let P : Naming → Type 0 = λ n. RequestLog (name_of n) (Some n.meta) (second ∷ first ∷ []) (asked ∷ []) in
       record {
         runs = turn_joins (λ past fits. tt) (turn_joins (λ past fits. before.leads past) before.done.runs begun) ended;
-        asked = asked_join log log1 log3 faults faults1 faults3 before.calls (asked ∷ []) before.done.asked called;
-        requests = requests_join (name_of names) (Some names.meta) before.entries (second ∷ first ∷ []) before.calls
+        asked = asked_join log log1 log3 faults faults1 faults3 before.deed.calls (asked ∷ []) before.done.asked called;
+        requests = requests_join (name_of names) (Some names.meta) before.deed.entries (second ∷ first ∷ []) before.deed.calls
             (asked ∷ []) before.done.requests (subst P same requests);
       }
 
   -- another block left the cache
   pub after_drop : {names2 : Naming} {c : Core} {tape2 : Option (List Entry)} {clock2 : Option (List Tick)}
       {entry : Entry} {next : ℕ} → Lasts Then
-      → SoFar Then met names names1 a b tape tape1 log log1 faults faults1 clock clock1 parts now
+      → SoFar Then met (scene_at names a tape log faults clock) (scene_at names1 b tape1 log1 faults1 clock1) parts now
       → (reading dropped : ℕ) → entry ≡ event reading (kind.Dropped dropped)
-      → EventWhere Then names1 names2 b c tape1 tape2 now entry → Gains clock1 clock2 (tick.Taken next ∷ [])
-      → SoFar Then met names names2 a c tape tape2 log log1 faults faults1 clock clock2 parts next
+      → EventWhere Then (disk_at names1 b tape1) (disk_at names2 c tape2) now entry → Gains clock1 clock2 (tick.Taken next ∷ [])
+      → SoFar Then met (scene_at names a tape log faults clock) (scene_at names2 c tape2 log1 faults1 clock2) parts next
   after_drop {next = next} lasts before reading dropped is did gains = record {
-    entries = event reading (kind.Dropped dropped) ∷ before.entries;
-    calls = before.calls;
-    ticks = tick.Taken now ∷ before.ticks;
+    deed = record { entries = event reading (kind.Dropped dropped) ∷ before.deed.entries; calls = before.deed.calls; ticks = tick.Taken now ∷ before.deed.ticks };
     done = one_turn before (plain_turn (Some next) is did (λ past. refl) gains) refl;
     met_so = before.met_so;
     no_bytes = ap (λ bs. bs ++ []) before.no_bytes;
     reached = before.reached;
+    none_fail = ((λ fails. fails), before.none_fail);
     asks = record { asked = before.asks.asked };
     leads = λ past.
-        lasts (event reading (kind.Dropped dropped) ∷ []) (before.entries ++ past) (before.leads past);
+        lasts (event reading (kind.Dropped dropped) ∷ []) (before.deed.entries ++ past) (before.leads past);
   }
 
   -- the event that answers the call
   pub ends_with : {names2 : Naming} {c : Core} {tape2 : Option (List Entry)} {entry : Entry}
-      → SoFar Then met names names1 a b tape tape1 log log1 faults faults1 clock clock1 parts now
+      → SoFar Then met (scene_at names a tape log faults clock) (scene_at names1 b tape1 log1 faults1 clock1) parts now
       → (reading : ℕ) (of : EntryKind) → entry ≡ event reading of
       → RequestLog (name_of names) (Some names.meta) (event reading of ∷ []) [] → asked_of of ≡ []
-      → ((past : List Entry) → PausesAfter (geometry_of b) (settings_of b) past now of None)
-      → EventWhere Then names1 names2 b c tape1 tape2 now entry
-      → Does (Did names names2 a c tape tape2 log log1 faults faults1 clock clock1) parts
-      (λ entries calls ticks. (outcomes_of entries ≡ outcome_of of ++ met) × (bytes_read entries ≡ bytes_of of)
-      × PausesReach ticks)
-  ends_with before reading of is quiet asks plain did = record {
-    entries = event reading of ∷ before.entries;
-    calls = before.calls;
-    ticks = tick.Taken now ∷ before.ticks;
+      → (IsFailure of → ⊥) → ((past : List Entry) → PausesAfter (geometry_of b) (settings_of b) past now of None)
+      → EventWhere Then (disk_at names1 b tape1) (disk_at names2 c tape2) now entry
+      → Does (Did (scene_at names a tape log faults clock) (scene_at names2 c tape2 log1 faults1 clock1)) parts
+      (λ (deed : Deed). Meets (outcome_of of ++ met) deed × (bytes_read deed.entries ≡ bytes_of of))
+  ends_with before reading of is quiet asks succeeds plain did = record {
+    deed = record { entries = event reading of ∷ before.deed.entries; calls = before.deed.calls; ticks = tick.Taken now ∷ before.deed.ticks };
     done = one_turn before (plain_turn None is did plain (gains_nothing clock1)) quiet;
     ends = (
-      ap (λ os. outcome_of of ++ os) before.met_so,
+      record {
+        met = ap (λ os. outcome_of of ++ os) before.met_so;
+        reached = before.reached;
+        none_fail = (succeeds, before.none_fail);
+      },
       ap (λ bs. bs ++ bytes_of of) before.no_bytes,
-      before.reached,
     );
     asks = record {
-      asked = subst (λ (bs : List ℕ). AllByRecursion (IsBlockOf parts) (bs ++ blocks_asked before.entries)) (sym asks)
+      asked = subst (λ (bs : List ℕ). AllByRecursion (IsBlockOf parts) (bs ++ blocks_asked before.deed.entries)) (sym asks)
           before.asks.asked;
     };
   }
@@ -276,74 +272,71 @@ module _ {Then : List Entry → Type 0} {met : List Outcome} {names names1 : Nam
   -- the call waited
   pub after_wait : {names2 : Naming} {c : Core} {tape2 : Option (List Entry)} {clock2 : Option (List Tick)}
       {latest latest' next : ℕ} {entry : Entry} → Lasts Then
-      → SoFar Then met names names1 a b tape tape1 log log1 faults faults1 clock clock1 parts now
+      → SoFar Then met (scene_at names a tape log faults clock) (scene_at names1 b tape1 log1 faults1 clock1) parts now
       → (reading : ℕ) (why : Why) → entry ≡ event reading (kind.Waited why)
-      → EventWhere Then names1 names2 b c tape1 tape2 now entry
+      → EventWhere Then (disk_at names1 b tape1) (disk_at names2 c tape2) now entry
       → Waits clock1 clock2 latest latest' now why (Ok next)
-      → SoFar Then met names names2 a c tape tape2 log log1 faults faults1 clock clock2 parts next
+      → SoFar Then met (scene_at names a tape log faults clock) (scene_at names2 c tape2 log1 faults1 clock2) parts next
   after_wait lasts before reading why is did waits = record {
-    entries = event reading (kind.Waited why) ∷ before.entries;
-    calls = before.calls;
-    ticks = (pause_is waits.paused).after ++ tick.Taken now ∷ before.ticks;
+    deed = record { entries = event reading (kind.Waited why) ∷ before.deed.entries; calls = before.deed.calls; ticks = (pause_is waits.paused).after ++ tick.Taken now ∷ before.deed.ticks };
     done = one_turn before (wait_turn reading why is did waits) refl;
     met_so = before.met_so;
     no_bytes = ap (λ bs. bs ++ []) before.no_bytes;
-    reached = (pause_is waits.paused).reaches before.ticks before.reached;
+    reached = (pause_is waits.paused).reaches before.deed.ticks before.reached;
+    none_fail = ((λ fails. fails), before.none_fail);
     asks = record { asked = before.asks.asked };
-    leads = λ past. lasts (event reading (kind.Waited why) ∷ []) (before.entries ++ past) (before.leads past);
+    leads = λ past. lasts (event reading (kind.Waited why) ∷ []) (before.deed.entries ++ past) (before.leads past);
   }
 
   -- the clock stands still behind a wait
   pub wait_fails : {names2 : Naming} {c : Core} {tape2 : Option (List Entry)} {clock2 : Option (List Tick)}
       {latest latest' : ℕ} {entry : Entry}
-      → SoFar Then met names names1 a b tape tape1 log log1 faults faults1 clock clock1 parts now
-      → (reading : ℕ) (why : Why) (fault : CallFault) → entry ≡ event reading (kind.Waited why)
-      → EventWhere Then names1 names2 b c tape1 tape2 now entry
+      → SoFar Then met (scene_at names a tape log faults clock) (scene_at names1 b tape1 log1 faults1 clock1) parts now
+      → (want : List Outcome) (reading : ℕ) (why : Why) (fault : CallFault) → 0 < length want
+      → entry ≡ event reading (kind.Waited why)
+      → EventWhere Then (disk_at names1 b tape1) (disk_at names2 c tape2) now entry
       → Waits clock1 clock2 latest latest' now why (Err fault)
-      → Does (Did names names2 a c tape tape2 log log1 faults faults1 clock clock2) parts
-      (λ entries calls ticks. (outcomes_of entries ≡ met) × ReachesBut fault ticks
-      × HasCause (base_of a) fault entries calls ticks)
-  wait_fails before reading why fault is did waits = record {
-    entries = event reading (kind.Waited why) ∷ before.entries;
-    calls = before.calls;
-    ticks = (pause_is waits.paused).after ++ tick.Taken now ∷ before.ticks;
+      → Does (Did (scene_at names a tape log faults clock) (scene_at names2 c tape2 log1 faults1 clock2)) parts
+      (λ (deed : Deed). Stops (base_of a) (want ++ met) deed fault)
+  wait_fails before want reading why fault some is did waits = record {
+    deed = record { entries = event reading (kind.Waited why) ∷ before.deed.entries; calls = before.deed.calls; ticks = (pause_is waits.paused).after ++ tick.Taken now ∷ before.deed.ticks };
     done = one_turn before (wait_turn reading why is did waits) refl;
-    ends = (
-      before.met_so,
-      (pause_is waits.paused).reaches before.ticks before.reached,
-      (pause_is waits.paused).cause (base_of a) (event reading (kind.Waited why)) before.entries before.calls
-          before.ticks waits.pause_is,
-    );
+    ends = record {
+      missing = want;
+      some = some;
+      met = ap (λ (os : List Outcome). want ++ os) before.met_so;
+      reached = (pause_is waits.paused).reaches before.deed.ticks before.reached;
+      cause = (pause_is waits.paused).cause (base_of a) (event reading (kind.Waited why)) before.deed.entries
+          before.deed.calls before.deed.ticks waits.pause_is ((λ fails. fails), before.none_fail);
+    };
     asks = record { asked = before.asks.asked };
   }
 
   -- the cause of the request that failed a call is that of the call, for the base that it began with
   fails_so : {c : Core}
-      (before : SoFar Then met names names1 a b tape tape1 log log1 faults faults1 clock clock1 parts now)
+      (before : SoFar Then met (scene_at names a tape log faults clock) (scene_at names1 b tape1 log1 faults1 clock1) parts now)
       → SameBase b c → (fault : CallFault) (rest entries : List Entry) (asked : Call) (later : ℕ) (after : List Tick)
-      → HasCause (base_of c) fault entries (asked ∷ []) (after ++ tick.Taken later ∷ [])
-      → HasCause (base_of a) fault (entries ++ rest) (asked ∷ before.calls)
-      (after ++ tick.Taken later ∷ tick.Taken now ∷ before.ticks)
-  fails_so {c} before base fault rest entries asked later after cause =
-      let all = after ++ tick.Taken later ∷ tick.Taken now ∷ before.ticks in
-      subst (λ (base : Base). HasCause base fault (entries ++ rest) (asked ∷ before.calls) all)
+      → NoneFail rest → HasCause (base_of c) fault (deed_of entries (asked ∷ []) (after ++ tick.Taken later ∷ []))
+      → HasCause (base_of a) fault (deed_of (entries ++ rest) (asked ∷ before.deed.calls)
+      (after ++ tick.Taken later ∷ tick.Taken now ∷ before.deed.ticks))
+  fails_so {c} before base fault rest entries asked later after none cause =
+      let all = after ++ tick.Taken later ∷ tick.Taken now ∷ before.deed.ticks in
+      subst (λ (base : Base). HasCause base fault (deed_of (entries ++ rest) (asked ∷ before.deed.calls) all))
       (same_base_of base ∙ same_base_of before.done.runs.base)
-      (subst (HasCause (base_of c) fault (entries ++ rest) (asked ∷ before.calls))
-      (append_assoc after (tick.Taken later ∷ []) (tick.Taken now ∷ before.ticks))
-      (cause_stays (base_of c) fault rest entries before.calls (asked ∷ []) (tick.Taken now ∷ before.ticks)
-      (after ++ tick.Taken later ∷ []) cause))
+      (subst (λ (ticks : List Tick). HasCause (base_of c) fault (deed_of (entries ++ rest)
+      (asked ∷ before.deed.calls) ticks))
+      (append_assoc after (tick.Taken later ∷ []) (tick.Taken now ∷ before.deed.ticks))
+      (cause_stays (base_of c) fault (deed_of rest before.deed.calls (tick.Taken now ∷ before.deed.ticks))
+      (deed_of entries (asked ∷ []) (after ++ tick.Taken later ∷ [])) none cause))
 
   -- the entries, the call and the ticks of a GET
   get_does : {names2 names3 : Naming} {c d : Core} {tape2 tape3 : Option (List Entry)}
       {log3 : Option (List Call)} {faults3 : ℕ} {clock3 : Option (List Tick)} {entry : Entry}
       {ended : Result ℕ CallFault} (job : GetJob)
-      (before : SoFar Then met names names1 a b tape tape1 log log1 faults faults1 clock clock1 parts now)
-      → entry ≡ get_begun job → EventWhere Then names1 names2 b c tape1 tape2 now entry
-      → (fetched : FetchDoes names2 names3 c d tape2 tape3 clock1 clock3 log1 log3 faults1 faults3 job ended)
-      → DidWhere any_past names names3 a d tape tape3 log log3 faults faults3 clock clock3
-      (get_ended job fetched.reading fetched.got fetched.bytes fetched.taken ∷ get_begun job ∷ before.entries)
-      (call.Get (name_of names2 job.block) job.verify (get_reply fetched.got fetched.bytes) ∷ before.calls)
-      (fetched.after ++ tick.Taken fetched.later ∷ tick.Taken now ∷ before.ticks) (next_of ended)
+      (before : SoFar Then met (scene_at names a tape log faults clock) (scene_at names1 b tape1 log1 faults1 clock1) parts now)
+      → entry ≡ get_begun job → EventWhere Then (disk_at names1 b tape1) (disk_at names2 c tape2) now entry
+      → (fetched : FetchDoes (scene_at names2 c tape2 log1 faults1 clock1) (scene_at names3 d tape3 log3 faults3 clock3) job ended)
+      → DidWhere any_past (scene_at names a tape log faults clock) (scene_at names3 d tape3 log3 faults3 clock3) (deed_of (get_ended job fetched.reading fetched.got fetched.bytes fetched.taken ∷ get_begun job ∷ before.deed.entries) (call.Get (name_of names2 job.block) job.verify (get_reply fetched.got fetched.bytes) ∷ before.deed.calls) (fetched.after ++ tick.Taken fetched.later ∷ tick.Taken now ∷ before.deed.ticks)) (next_of ended)
   get_does {names2} {faults3 = faults3} job before is did fetched =
       let asked = call.Get (name_of names2 job.block) job.verify (get_reply fetched.got fetched.bytes) in
       two_turns before (plain_turn (Some fetched.later) is did (λ past. refl) fetched.took) fetched.turn
@@ -357,48 +350,48 @@ module _ {Then : List Entry → Type 0} {met : List Outcome} {names names1 : Nam
   -- a GET was made
   pub after_get : {names2 names3 : Naming} {c d : Core} {tape2 tape3 : Option (List Entry)}
       {log3 : Option (List Call)} {faults3 : ℕ} {clock3 : Option (List Tick)} {entry : Entry} {next : ℕ}
-      → Lasts Then → SoFar Then met names names1 a b tape tape1 log log1 faults faults1 clock clock1 parts now
+      → Lasts Then → SoFar Then met (scene_at names a tape log faults clock) (scene_at names1 b tape1 log1 faults1 clock1) parts now
       → (job : GetJob) → entry ≡ get_begun job → IsBlockOf parts job.block
-      → EventWhere Then names1 names2 b c tape1 tape2 now entry
-      → FetchDoes names2 names3 c d tape2 tape3 clock1 clock3 log1 log3 faults1 faults3 job (Ok next)
-      → SoFar Then met names names3 a d tape tape3 log log3 faults faults3 clock clock3 parts next
+      → EventWhere Then (disk_at names1 b tape1) (disk_at names2 c tape2) now entry
+      → FetchDoes (scene_at names2 c tape2 log1 faults1 clock1) (scene_at names3 d tape3 log3 faults3 clock3) job (Ok next)
+      → SoFar Then met (scene_at names a tape log faults clock) (scene_at names3 d tape3 log3 faults3 clock3) parts next
   after_get {names2} lasts before job is same did fetched =
       let more = get_ended job fetched.reading fetched.got fetched.bytes fetched.taken ∷ get_begun job ∷ [] in
       record {
-        entries = more ++ before.entries;
-        calls = call.Get (name_of names2 job.block) job.verify (get_reply fetched.got fetched.bytes) ∷ before.calls;
-        ticks = fetched.after ++ tick.Taken fetched.later ∷ tick.Taken now ∷ before.ticks;
+        deed = record { entries = more ++ before.deed.entries; calls = call.Get (name_of names2 job.block) job.verify (get_reply fetched.got fetched.bytes) ∷ before.deed.calls; ticks = fetched.after ++ tick.Taken fetched.later ∷ tick.Taken now ∷ before.deed.ticks };
         done = get_does job before is did fetched;
         met_so = before.met_so;
         no_bytes = ap (λ bs. (bs ++ []) ++ []) before.no_bytes;
-        reached = fetched.reaches (tick.Taken now ∷ before.ticks) before.reached;
+        reached = fetched.reaches (tick.Taken now ∷ before.deed.ticks) before.reached;
+        none_fail = (fetched.cause.0, (fetched.cause.1.0, before.none_fail));
         asks = record { asked = (same, before.asks.asked) };
-        leads = λ past. lasts more (before.entries ++ past) (before.leads past);
+        leads = λ past. lasts more (before.deed.entries ++ past) (before.leads past);
       }
 
   -- a call failed by a GET
   pub get_fails : {names2 names3 : Naming} {c d : Core} {tape2 tape3 : Option (List Entry)}
       {log3 : Option (List Call)} {faults3 : ℕ} {clock3 : Option (List Tick)} {entry : Entry}
-      → SoFar Then met names names1 a b tape tape1 log log1 faults faults1 clock clock1 parts now
-      → (job : GetJob) (fault : CallFault) → entry ≡ get_begun job → IsBlockOf parts job.block
-      → EventWhere Then names1 names2 b c tape1 tape2 now entry
-      → FetchDoes names2 names3 c d tape2 tape3 clock1 clock3 log1 log3 faults1 faults3 job (Err fault)
-      → Does (Did names names3 a d tape tape3 log log3 faults faults3 clock clock3) parts
-      (λ entries calls ticks. (outcomes_of entries ≡ met) × ReachesBut fault ticks
-      × HasCause (base_of a) fault entries calls ticks)
-  get_fails {names2} before job fault is same did fetched =
+      → SoFar Then met (scene_at names a tape log faults clock) (scene_at names1 b tape1 log1 faults1 clock1) parts now
+      → (want : List Outcome) (job : GetJob) (fault : CallFault) → 0 < length want → entry ≡ get_begun job
+      → IsBlockOf parts job.block
+      → EventWhere Then (disk_at names1 b tape1) (disk_at names2 c tape2) now entry
+      → FetchDoes (scene_at names2 c tape2 log1 faults1 clock1) (scene_at names3 d tape3 log3 faults3 clock3) job (Err fault)
+      → Does (Did (scene_at names a tape log faults clock) (scene_at names3 d tape3 log3 faults3 clock3)) parts
+      (λ (deed : Deed). Stops (base_of a) (want ++ met) deed fault)
+  get_fails {names2} before want job fault some is same did fetched =
       let more = get_ended job fetched.reading fetched.got fetched.bytes fetched.taken ∷ get_begun job ∷ [] in
       let asked = call.Get (name_of names2 job.block) job.verify (get_reply fetched.got fetched.bytes) in
       record {
-        entries = more ++ before.entries;
-        calls = asked ∷ before.calls;
-        ticks = fetched.after ++ tick.Taken fetched.later ∷ tick.Taken now ∷ before.ticks;
+        deed = record { entries = more ++ before.deed.entries; calls = asked ∷ before.deed.calls; ticks = fetched.after ++ tick.Taken fetched.later ∷ tick.Taken now ∷ before.deed.ticks };
         done = get_does job before is did fetched;
-        ends = (
-          before.met_so,
-          fetched.reaches (tick.Taken now ∷ before.ticks) before.reached,
-          fails_so before did.base fault before.entries more asked fetched.later fetched.after fetched.cause,
-        );
+        ends = record {
+          missing = want;
+          some = some;
+          met = ap (λ (os : List Outcome). want ++ os) before.met_so;
+          reached = fetched.reaches (tick.Taken now ∷ before.deed.ticks) before.reached;
+          cause = fails_so before did.base fault before.deed.entries more asked fetched.later fetched.after
+              before.none_fail fetched.cause;
+        };
         asks = record { asked = (same, before.asks.asked) };
       }
 
@@ -406,14 +399,11 @@ module _ {Then : List Entry → Type 0} {met : List Outcome} {names names1 : Nam
   put_does : {names2 names3 : Naming} {c d : Core} {tape2 tape3 : Option (List Entry)}
       {log3 : Option (List Call)} {faults3 : ℕ} {clock3 : Option (List Tick)} {entry : Entry}
       {ended : Result ℕ CallFault} (reading block : ℕ) (content : List ℕ)
-      (before : SoFar Then met names names1 a b tape tape1 log log1 faults faults1 clock clock1 parts now)
+      (before : SoFar Then met (scene_at names a tape log faults clock) (scene_at names1 b tape1 log1 faults1 clock1) parts now)
       → entry ≡ event reading (kind.PutBegin block content)
-      → EventWhere Then names1 names2 b c tape1 tape2 now entry
-      → (stored : StoreDoes names2 names3 c d tape2 tape3 clock1 clock3 log1 log3 faults1 faults3 block content ended)
-      → DidWhere any_past names names3 a d tape tape3 log log3 faults faults3 clock clock3
-      (put_ended block stored.reading stored.sent ∷ event reading (kind.PutBegin block content) ∷ before.entries)
-      (put_sent names2 block content stored.sent ∷ before.calls)
-      (stored.after ++ tick.Taken stored.later ∷ tick.Taken now ∷ before.ticks) (next_of ended)
+      → EventWhere Then (disk_at names1 b tape1) (disk_at names2 c tape2) now entry
+      → (stored : StoreDoes (scene_at names2 c tape2 log1 faults1 clock1) (scene_at names3 d tape3 log3 faults3 clock3) block content ended)
+      → DidWhere any_past (scene_at names a tape log faults clock) (scene_at names3 d tape3 log3 faults3 clock3) (deed_of (put_ended block stored.reading stored.sent ∷ event reading (kind.PutBegin block content) ∷ before.deed.entries) (put_sent names2 block content stored.sent ∷ before.deed.calls) (stored.after ++ tick.Taken stored.later ∷ tick.Taken now ∷ before.deed.ticks)) (next_of ended)
   put_does {names2} {faults3 = faults3} reading block content before is did stored =
       two_turns before (plain_turn (Some stored.later) is did (λ past. refl) stored.took) stored.turn
       (record {
@@ -427,51 +417,49 @@ module _ {Then : List Entry → Type 0} {met : List Outcome} {names names1 : Nam
   -- a PUT was made
   pub after_put : {names2 names3 : Naming} {c d : Core} {tape2 tape3 : Option (List Entry)}
       {log3 : Option (List Call)} {faults3 : ℕ} {clock3 : Option (List Tick)} {entry : Entry} {next : ℕ}
-      → Lasts Then → SoFar Then met names names1 a b tape tape1 log log1 faults faults1 clock clock1 parts now
+      → Lasts Then → SoFar Then met (scene_at names a tape log faults clock) (scene_at names1 b tape1 log1 faults1 clock1) parts now
       → (reading block : ℕ) (content : List ℕ) → entry ≡ event reading (kind.PutBegin block content)
-      → EventWhere Then names1 names2 b c tape1 tape2 now entry
-      → StoreDoes names2 names3 c d tape2 tape3 clock1 clock3 log1 log3 faults1 faults3 block content (Ok next)
-      → SoFar Then met names names3 a d tape tape3 log log3 faults faults3 clock clock3 parts next
+      → EventWhere Then (disk_at names1 b tape1) (disk_at names2 c tape2) now entry
+      → StoreDoes (scene_at names2 c tape2 log1 faults1 clock1) (scene_at names3 d tape3 log3 faults3 clock3) block content (Ok next)
+      → SoFar Then met (scene_at names a tape log faults clock) (scene_at names3 d tape3 log3 faults3 clock3) parts next
   after_put {names2} lasts before reading block content is did stored =
       let more = put_ended block stored.reading stored.sent ∷ event reading (kind.PutBegin block content) ∷ [] in
       record {
-        entries = more ++ before.entries;
-        calls = put_sent names2 block content stored.sent ∷ before.calls;
-        ticks = stored.after ++ tick.Taken stored.later ∷ tick.Taken now ∷ before.ticks;
+        deed = record { entries = more ++ before.deed.entries; calls = put_sent names2 block content stored.sent ∷ before.deed.calls; ticks = stored.after ++ tick.Taken stored.later ∷ tick.Taken now ∷ before.deed.ticks };
         done = put_does reading block content before is did stored;
         met_so = before.met_so;
         no_bytes = ap (λ bs. (bs ++ []) ++ []) before.no_bytes;
-        reached = stored.reaches (tick.Taken now ∷ before.ticks) before.reached;
+        reached = stored.reaches (tick.Taken now ∷ before.deed.ticks) before.reached;
+        none_fail = (stored.cause.0, ((λ fails. fails), before.none_fail));
         asks = record { asked = before.asks.asked };
-        leads = λ past. lasts more (before.entries ++ past) (before.leads past);
+        leads = λ past. lasts more (before.deed.entries ++ past) (before.leads past);
       }
 
   -- a call failed by a PUT
   pub put_fails : {names2 names3 : Naming} {c d : Core} {tape2 tape3 : Option (List Entry)}
       {log3 : Option (List Call)} {faults3 : ℕ} {clock3 : Option (List Tick)} {entry : Entry}
-      → SoFar Then met names names1 a b tape tape1 log log1 faults faults1 clock clock1 parts now
-      → (reading block : ℕ) (content : List ℕ) (fault : CallFault)
+      → SoFar Then met (scene_at names a tape log faults clock) (scene_at names1 b tape1 log1 faults1 clock1) parts now
+      → (want : List Outcome) (reading block : ℕ) (content : List ℕ) (fault : CallFault) → 0 < length want
       → entry ≡ event reading (kind.PutBegin block content)
-      → EventWhere Then names1 names2 b c tape1 tape2 now entry
-      → StoreDoes names2 names3 c d tape2 tape3 clock1 clock3 log1 log3 faults1 faults3 block content (Err fault)
-      → Does (Did names names3 a d tape tape3 log log3 faults faults3 clock clock3) parts
-      (λ entries calls ticks. (outcomes_of entries ≡ met) × ReachesBut fault ticks
-      × HasCause (base_of a) fault entries calls ticks)
-  put_fails {names2} before reading block content fault is did stored =
+      → EventWhere Then (disk_at names1 b tape1) (disk_at names2 c tape2) now entry
+      → StoreDoes (scene_at names2 c tape2 log1 faults1 clock1) (scene_at names3 d tape3 log3 faults3 clock3) block content (Err fault)
+      → Does (Did (scene_at names a tape log faults clock) (scene_at names3 d tape3 log3 faults3 clock3)) parts
+      (λ (deed : Deed). Stops (base_of a) (want ++ met) deed fault)
+  put_fails {names2} before want reading block content fault some is did stored =
       let ended = put_ended block stored.reading stored.sent in
       let begun = event reading (kind.PutBegin block content) in
       let asked = put_sent names2 block content stored.sent in
       record {
-        entries = ended ∷ begun ∷ before.entries;
-        calls = asked ∷ before.calls;
-        ticks = stored.after ++ tick.Taken stored.later ∷ tick.Taken now ∷ before.ticks;
+        deed = record { entries = ended ∷ begun ∷ before.deed.entries; calls = asked ∷ before.deed.calls; ticks = stored.after ++ tick.Taken stored.later ∷ tick.Taken now ∷ before.deed.ticks };
         done = put_does reading block content before is did stored;
-        ends = (
-          before.met_so,
-          stored.reaches (tick.Taken now ∷ before.ticks) before.reached,
-          fails_so before did.base fault (begun ∷ before.entries) (ended ∷ []) asked stored.later stored.after
-              stored.cause,
-        );
+        ends = record {
+          missing = want;
+          some = some;
+          met = ap (λ (os : List Outcome). want ++ os) before.met_so;
+          reached = stored.reaches (tick.Taken now ∷ before.deed.ticks) before.reached;
+          cause = fails_so before did.base fault (begun ∷ before.deed.entries) (ended ∷ []) asked stored.later
+              stored.after ((λ fails. fails), before.none_fail) stored.cause;
+        };
         asks = record { asked = before.asks.asked };
       }
 
@@ -479,18 +467,17 @@ module _ {Then : List Entry → Type 0} {met : List Outcome} {names names1 : Nam
 pub begins_flush : {names names1 : Naming} {a b : Core} {tape tape1 : Option (List Entry)} {log : Option (List Call)}
     {faults : ℕ} {clock clock1 clock2 : Option (List Tick)} {begun now : ℕ} (reading mark : ℕ)
     → Gains clock clock1 (tick.Taken begun ∷ [])
-    → Event names names1 a b tape tape1 begun (event reading (kind.FlushBegin mark))
+    → Event (disk_at names a tape) (disk_at names1 b tape1) begun (event reading (kind.FlushBegin mark))
     → Gains clock1 clock2 (tick.Taken now ∷ [])
-    → SoFar (HasBegun mark) (FlushBegun mark ∷ []) names names1 a b tape tape1 log log faults faults clock clock2 [] now
+    → SoFar (HasBegun mark) (FlushBegun mark ∷ []) (scene_at names a tape log faults clock) (scene_at names1 b tape1 log faults clock2) [] now
 unfolding starts
 begins_flush {begun = begun} {now = now} reading mark first did second = record {
-  entries = event reading (kind.FlushBegin mark) ∷ [];
-  calls = [];
-  ticks = tick.Taken begun ∷ [];
+  deed = record { entries = event reading (kind.FlushBegin mark) ∷ []; calls = []; ticks = tick.Taken begun ∷ [] };
   done = one_turn (starts {parts = []} first) (plain_turn (Some now) refl did (λ past. refl) second) refl;
   met_so = refl;
   no_bytes = refl;
   reached = tt;
+  none_fail = ((λ fails. fails), tt);
   asks = record { asked = tt };
   leads = λ past.
       ap (λ (t : Bool). is_some (if t then Some (length past) else flush_place past mark)) (eq-eqb mark mark refl);

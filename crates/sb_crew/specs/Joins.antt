@@ -14,6 +14,7 @@ use Rattle.sb_history.specs.ClockTrace.{ClockTrace, PausesAfter}
 use Rattle.sb_laws.proofs.Joins.{requests_join, clock_traces_join, entry_is_ticked}
 use Rattle.sb_core.specs.declared.machine.Core.{Core}
 use Rattle.sb_core.specs.Represents.{Represents, geometry_of, settings_of}
+use Rattle.sb_crew.specs.Scenes.{DiskScene, Scene, Deed, nothing, followed}
 use Rattle.sb_crew.specs.Names.{Naming, name_of}
 use Rattle.sb_crew.specs.Outcomes.{fault_of}
 use Rattle.sb_crew.specs.Counts.{is_failure, failures, Asked}
@@ -78,43 +79,38 @@ pass_joins xs [] first second = first
 pass_joins xs (y ∷ ys) first second = (second.0, pass_joins xs ys first second.1)
 
 -- a run over histories of one kind, and one over those that it leads to
-pub runs_join : {Is Then : List Entry → Type 0} {names names' names'' : Naming} {a b c : Core}
-    {tape tape' tape'' : Option (List Entry)} {clock clock' clock'' : Option (List Tick)} {xs ys : List Entry}
-    {ss ts : List Tick} → ((past : List Entry) → Is past → Then (xs ++ past))
-    → RunsWhere Is names names' a b tape tape' clock clock' xs ss None
-    → RunsWhere Then names' names'' b c tape' tape'' clock' clock'' ys ts None
-    → RunsWhere Is names names'' a c tape tape'' clock clock'' (ys ++ xs) (ts ++ ss) None
-runs_join {Is} {Then} {names} {names'} {names''} {a} {b} {c} {tape} {tape'} {tape''} {clock} {clock'} {clock''} {xs}
-    {ys} {ss} {ts} leads first second = record {
-      same_names = second.same_names ∙ first.same_names;
-      base = record {
-        geometry = second.base.geometry ∙ first.base.geometry;
-        settings = second.base.settings ∙ first.base.settings;
-      };
-      history = λ past fits is.
-          subst (Represents c) (sym (append_assoc ys xs past))
-          (second.history (xs ++ past) (leads past fits) (first.history past fits is));
-      of_pass = pass_joins xs ys first.of_pass second.of_pass;
-      told = gains_join tape tape' tape'' xs ys first.told second.told;
-      readings = gains_join clock clock' clock'' ss ts first.readings second.readings;
-      trace = λ past fits is.
-          let P : Geometry → Type 0 = λ g. ClockTrace g (settings_of b) only_caller (xs ++ past) ys None ts in
-          let Q : Settings → Type 0 = λ s. ClockTrace (geometry_of a) s only_caller (xs ++ past) ys None ts in
-          let later = second.trace (xs ++ past) (leads past fits) (first.history past fits is) in
-          clock_traces_join (geometry_of a) (settings_of a) only_caller past xs ys None ss ts
-          (first.trace past fits is) (subst Q first.base.settings (subst P first.base.geometry later));
-    }
+pub runs_join : {Is Then : List Entry → Type 0} {a b c : DiskScene} {clock clock' clock'' : Option (List Tick)}
+    {xs ys : List Entry} {ss ts : List Tick} → ((past : List Entry) → Is past → Then (xs ++ past))
+    → RunsWhere Is a b clock clock' xs ss None → RunsWhere Then b c clock' clock'' ys ts None
+    → RunsWhere Is a c clock clock'' (ys ++ xs) (ts ++ ss) None
+runs_join {a = a} {b = b} {c = c} {clock = clock} {clock' = clock'} {clock'' = clock''} {xs = xs} {ys = ys} {ss = ss} {ts = ts} leads first second = record {
+  same_names = second.same_names ∙ first.same_names;
+  base = record {
+    geometry = second.base.geometry ∙ first.base.geometry;
+    settings = second.base.settings ∙ first.base.settings;
+  };
+  history = λ past fits is.
+      subst (Represents c.core) (sym (append_assoc ys xs past))
+      (second.history (xs ++ past) (leads past fits) (first.history past fits is));
+  of_pass = pass_joins xs ys first.of_pass second.of_pass;
+  told = gains_join a.tape b.tape c.tape xs ys first.told second.told;
+  readings = gains_join clock clock' clock'' ss ts first.readings second.readings;
+  trace = λ past fits is.
+      let P : Geometry → Type 0 = λ g. ClockTrace g (settings_of b.core) only_caller (xs ++ past) ys None ts in
+      let Q : Settings → Type 0 = λ s. ClockTrace (geometry_of a.core) s only_caller (xs ++ past) ys None ts in
+      let later = second.trace (xs ++ past) (leads past fits) (first.history past fits is) in
+      clock_traces_join (geometry_of a.core) (settings_of a.core) only_caller past xs ys None ss ts
+      (first.trace past fits is) (subst Q first.base.settings (subst P first.base.geometry later));
+}
 
 -- a run up to a next reading, and the turn that it was taken for
-pub turn_joins : {Is Then : List Entry → Type 0} {names names' names'' : Naming} {a b c : Core}
-    {tape tape' tape'' : Option (List Entry)} {clock clock' clock'' : Option (List Tick)} {xs : List Entry}
-    {ss after : List Tick} {now : ℕ} {entry : Entry} {next : Option ℕ}
-    → ((past : List Entry) → Is past → Then (xs ++ past))
-    → RunsWhere Is names names' a b tape tape' clock clock' xs ss (Some now)
-    → TurnWhere Then names' names'' b c tape' tape'' clock' clock'' now entry next after
-    → RunsWhere Is names names'' a c tape tape'' clock clock'' (entry ∷ xs) (after ++ tick.Taken now ∷ ss) next
-turn_joins {Is} {Then} {names} {names'} {names''} {a} {b} {c} {tape} {tape'} {tape''} {clock} {clock'} {clock''} {xs}
-    {ss} {after} {now} {entry} {next} leads first turn = record {
+pub turn_joins : {Is Then : List Entry → Type 0} {a b c : DiskScene} {clock clock' clock'' : Option (List Tick)}
+    {xs : List Entry} {ss after : List Tick} {now : ℕ} {entry : Entry} {next : Option ℕ}
+    → ((past : List Entry) → Is past → Then (xs ++ past)) → RunsWhere Is a b clock clock' xs ss (Some now)
+    → TurnWhere Then b c clock' clock'' now entry next after
+    → RunsWhere Is a c clock clock'' (entry ∷ xs) (after ++ tick.Taken now ∷ ss) next
+turn_joins {a = a} {b = b} {c = c} {clock = clock} {clock' = clock'} {clock'' = clock''} {xs = xs} {ss = ss} {after = after} {now = now} {entry = entry} {next = next} leads first turn =
+    record {
       same_names = turn.event.same_names ∙ first.same_names;
       base = record {
         geometry = turn.event.base.geometry ∙ first.base.geometry;
@@ -122,51 +118,45 @@ turn_joins {Is} {Then} {names} {names'} {names''} {a} {b} {c} {tape} {tape'} {ta
       };
       history = λ past fits is. turn.event.history (xs ++ past) (leads past fits) (first.history past fits is);
       of_pass = (turn.event.of_pass, first.of_pass);
-      told = gains_join tape tape' tape'' xs (entry ∷ []) first.told turn.event.told;
+      told = gains_join a.tape b.tape c.tape xs (entry ∷ []) first.told turn.event.told;
       readings = subst (Gains clock clock'') (append_assoc (next_ticks next) after (tick.Taken now ∷ ss))
           (gains_join clock clock' clock'' (tick.Taken now ∷ ss) (next_ticks next ++ after) first.readings
           turn.readings);
       trace = λ past fits is.
           let before = first.history past fits is in
-          let P : Geometry → Type 0 = λ g. PausesAfter g (settings_of b) (xs ++ past) now entry.kind turn.pause in
-          let Q : Settings → Type 0 = λ s. PausesAfter (geometry_of a) s (xs ++ past) now entry.kind turn.pause in
-          entry_is_ticked (geometry_of a) (settings_of a) only_caller past xs entry next turn.pause now after ss
+          let P : Geometry → Type 0 = λ g. PausesAfter g (settings_of b.core) (xs ++ past) now entry.kind turn.pause in
+          let Q : Settings → Type 0 = λ s. PausesAfter (geometry_of a.core) s (xs ++ past) now entry.kind turn.pause in
+          entry_is_ticked (geometry_of a.core) (settings_of a.core) only_caller past xs entry next turn.pause now after ss
           turn.event.of_pass (turn.event.reading ∙ ap (λ (n : ℕ). max now n) before.last)
           (subst Q first.base.settings (subst P first.base.geometry
           (turn.pauses (xs ++ past) (leads past fits) before))) turn.paused (first.trace past fits is);
     }
 
 -- what was done to histories of one kind, and then to those that it leads to
-pub did_join : {Is Then : List Entry → Type 0} {names names' names'' : Naming} {a b c : Core}
-    {tape tape' tape'' : Option (List Entry)} {log log' log'' : Option (List Call)} {faults faults' faults'' : ℕ}
-    {clock clock' clock'' : Option (List Tick)} {xs ys : List Entry} {us vs : List Call}
-    {ss ts : List Tick} → ((past : List Entry) → Is past → Then (xs ++ past))
-    → DidWhere Is names names' a b tape tape' log log' faults faults' clock clock' xs us ss None
-    → DidWhere Then names' names'' b c tape' tape'' log' log'' faults' faults'' clock' clock'' ys vs ts None
-    → DidWhere Is names names'' a c tape tape'' log log'' faults faults'' clock clock'' (ys ++ xs) (vs ++ us)
-    (ts ++ ss) None
-did_join {Is} {Then} {names} {names'} {names''} {a} {b} {c} {tape} {tape'} {tape''} {log} {log'} {log''} {faults}
-    {faults'} {faults''} {clock} {clock'} {clock''} {xs} {ys} {us} {vs} leads first second =
-    let P : Naming → Type 0 = λ n. RequestLog (name_of n) (Some n.meta) ys vs in
+pub did_join : {Is Then : List Entry → Type 0} {a b c : Scene} {x y : Deed}
+    → ((past : List Entry) → Is past → Then (x.entries ++ past)) → DidWhere Is a b x None → DidWhere Then b c y None
+    → DidWhere Is a c (followed x y) None
+did_join {a = a} {b = b} {c = c} {x = x} {y = y} leads first second =
+    let P : Naming → Type 0 = λ n. RequestLog (name_of n) (Some n.meta) y.entries y.calls in
     record {
       runs = runs_join leads first.runs second.runs;
-      asked = asked_join log log' log'' faults faults' faults'' us vs first.asked second.asked;
-      requests = requests_join (name_of names) (Some names.meta) xs ys us vs first.requests
-          (subst P first.runs.same_names second.requests);
+      asked = asked_join a.log b.log c.log a.faults b.faults c.faults x.calls y.calls first.asked second.asked;
+      requests = requests_join (name_of a.disk.names) (Some a.disk.names.meta) x.entries y.entries x.calls y.calls
+          first.requests (subst P first.runs.same_names second.requests);
     }
 
 -- nothing was done, and a next reading may have been taken
-pub did_begin : {Is : List Entry → Type 0} {names : Naming} {core : Core} {tape : Option (List Entry)}
-    {log : Option (List Call)} {faults : ℕ} {clock clock' : Option (List Tick)} (next : Option ℕ)
-    → Gains clock clock' (next_ticks next ++ [])
-    → DidWhere Is names names core core tape tape log log faults faults clock clock' [] [] [] next
-did_begin {tape = tape} {log = log} {faults = faults} next gains = record {
+pub did_begin : {Is : List Entry → Type 0} {disk : DiskScene} {log : Option (List Call)} {faults : ℕ}
+    {clock clock' : Option (List Tick)} (next : Option ℕ) → Gains clock clock' (next_ticks next ++ [])
+    → DidWhere Is (record { disk = disk; log = log; faults = faults; ticks = clock })
+    (record { disk = disk; log = log; faults = faults; ticks = clock' }) nothing next
+did_begin {disk = disk} {log = log} {faults = faults} next gains = record {
   runs = record {
     same_names = refl;
     base = record { geometry = refl; settings = refl };
     history = λ past fits is. is;
     of_pass = tt;
-    told = gains_nothing tape;
+    told = gains_nothing disk.tape;
     readings = gains;
     trace = λ past fits is. refl;
   };
@@ -175,7 +165,6 @@ did_begin {tape = tape} {log = log} {faults = faults} next gains = record {
 }
 
 -- nothing was done
-pub did_nothing : {Is : List Entry → Type 0} {names : Naming} {core : Core} {tape : Option (List Entry)}
-    {log : Option (List Call)} {faults : ℕ} {clock : Option (List Tick)}
-    → DidWhere Is names names core core tape tape log log faults faults clock clock [] [] [] None
-did_nothing {clock = clock} = did_begin None (gains_nothing clock)
+pub did_nothing : {Is : List Entry → Type 0} {scene : Scene} → DidWhere Is scene scene nothing None
+did_nothing {scene = scene} = did_begin {disk = scene.disk} {log = scene.log} {faults = scene.faults} None
+    (gains_nothing scene.ticks)

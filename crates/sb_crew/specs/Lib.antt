@@ -9,3 +9,4 @@ pub mod Turns
 pub mod Ready
 pub mod Joins
 pub mod Disks
+pub mod Scenes

@@ -1,6 +1,6 @@
 -- What the entries of a call of the disk came to. Entries, calls of the link and ticks are newest first.
 use Rattle.std.specs.Prelude.{ℕ, ◌≡◌, ◌≢◌, ◌+◌, ◌<◌, ◌≤◌, ◌⊎◌, length, List, [], ◌∷◌, ◌++◌, Option, Some, None}
-use Rattle.std.specs.Prelude.{Result, Ok, Err, false}
+use Rattle.std.specs.Prelude.{Result, Ok, Err, IfErr, false}
 use Rattle.std.specs.List.{AllByRecursion}
 use Rattle.sb_base.specs.declared.part.Part.{Part}
 use Rattle.sb_base.specs.declared.entry.Entry.{Entry}
@@ -18,6 +18,7 @@ use Rattle.sb_world.specs.declared.link.LinkFault.{LinkFault}
 use Rattle.sb_world.specs.declared.link.LinkFault.TheVariants as link
 use Rattle.sb_history.specs.ClockTrace.{wait_pause}
 use Rattle.sb_history.specs.Window.{answer_digest}
+use Rattle.sb_crew.specs.Scenes.{Deed}
 use Rattle.sb_crew.specs.Bases.{Base}
 use Rattle.sb_crew.specs.declared.calls.CallFault.{CallFault}
 use Rattle.sb_crew.specs.declared.calls.CallFault.TheVariants.{StoreFault, Memory, StaleRead, ClockStalled}
@@ -84,9 +85,14 @@ fault_of (call.Put name body meta fault) = fault
 fault_of (call.Delete name fault) = fault
 fault_of other = None
 
--- the newest entry is a failure, and the newest call of the link answered this fault
+-- no request of the link failed
+abbrev pub NoneFail : List Entry → Type 0
+NoneFail entries = AllByRecursion (λ (entry : Entry). IsFailure entry.kind → ⊥) entries
+
+-- the newest entry is a failure and no other one is, and the newest call of the link answered this fault
 abbrev pub FailsBy : LinkFault → List Entry → List Call → Type 0
-FailsBy fault (entry ∷ entries) (call ∷ calls) = IsFailure entry.kind × (fault_of call ≡ Some fault)
+FailsBy fault (entry ∷ entries) (call ∷ calls) =
+    IsFailure entry.kind × (fault_of call ≡ Some fault) × NoneFail entries
 FailsBy fault entries calls = ⊥
 
 -- the end of a GET of this block that wasn't taken, whose answer has this digest
@@ -134,13 +140,15 @@ IsStalled before asked after [] ticks = ⊥
 IsStalled before asked after (entry ∷ entries) ticks =
     PausesFor before asked entry.kind × FallsBehind before asked after ticks
 
--- why a call of a disk with this base failed, by its entries, its calls of the link and its ticks
-abbrev pub HasCause : Base → CallFault → List Entry → List Call → List Tick → Type 0
-HasCause base (StoreFault status) entries calls ticks = FailsBy (link.Failed status) entries calls
-HasCause base Memory entries calls ticks = FailsBy link.Memory entries calls
-HasCause base (StaleRead block expected shown begun) entries calls ticks =
-    IsStale base block expected shown begun entries
-HasCause base (ClockStalled before asked after) entries calls ticks = IsStalled before asked after entries ticks
+-- why a call of a disk with this base failed, by what it did: a request of the link failed, and none before it, or a
+-- GET was stale or the clock stood still, and no request failed
+abbrev pub HasCause : Base → CallFault → Deed → Type 0
+HasCause base (StoreFault status) deed = FailsBy (link.Failed status) deed.entries deed.calls
+HasCause base Memory deed = FailsBy link.Memory deed.entries deed.calls
+HasCause base (StaleRead block expected shown begun) deed =
+    IsStale base block expected shown begun deed.entries × NoneFail deed.entries
+HasCause base (ClockStalled before asked after) deed =
+    IsStalled before asked after deed.entries deed.ticks × NoneFail deed.entries
 
 -- each pause stands between two readings, and the later one is that of the pause's end or above it
 abbrev pub PausesReach : List Tick → Type 0
@@ -163,50 +171,47 @@ abbrev pub ReachesBut : CallFault → List Tick → Type 0
 ReachesBut (ClockStalled before asked after) ticks = ReachesBefore ticks
 ReachesBut fault ticks = PausesReach ticks
 
+-- a goal was met, no pause came short, and no request of the link failed
+pub record Meets (goal : List Outcome) (deed : Deed) : Type 0 where
+  pub met : outcomes_of deed.entries ≡ goal
+  pub reached : PausesReach deed.ticks
+  pub none_fail : NoneFail deed.entries
+
 -- a proper front of a goal was met, and then a call of the disk failed so
-pub record Stops (base : Base) (goal : List Outcome) (entries : List Entry) (calls : List Call) (ticks : List Tick)
-    (fault : CallFault) : Type 0 where
+pub record Stops (base : Base) (goal : List Outcome) (deed : Deed) (fault : CallFault) : Type 0 where
   pub missing : List Outcome
   pub some : 0 < length missing
-  pub met : missing ++ outcomes_of entries ≡ goal
-  pub reached : ReachesBut fault ticks
-  pub cause : HasCause base fault entries calls ticks
+  pub met : missing ++ outcomes_of deed.entries ≡ goal
+  pub reached : ReachesBut fault deed.ticks
+  pub cause : HasCause base fault deed
+
+-- a goal was met, or the fault says why it wasn't
+abbrev pub GoalEnds : Base → List Outcome → Result Unit CallFault → Deed → Type 0
+GoalEnds base goal (Ok done) deed = Meets goal deed
+GoalEnds base goal (Err fault) deed = Stops base goal deed fault
+
+-- what succeeded read these bytes
+abbrev pub GivesBytes : List ℕ → Result Unit CallFault → Deed → Type 0
+GivesBytes bytes (Ok done) deed = bytes_read deed.entries ≡ bytes
+GivesBytes bytes (Err fault) deed = Unit {0}
 
 -- what was done between two states of a disk and its desk: it ended so, and asked for no other blocks than those of
 -- these parts
-pub record Does (did : List Entry → List Call → List Tick → Type 0) (parts : List Part)
-    (Ends : List Entry → List Call → List Tick → Type 0) : Type 0 where
-  pub entries : List Entry
-  pub calls : List Call
-  pub ticks : List Tick
-  pub done : did entries calls ticks
-  pub ends : Ends entries calls ticks
-  pub asks : AsksOnly parts entries
+pub record Does (did : Deed → Type 0) (parts : List Part) (Ends : Deed → Type 0) : Type 0 where
+  pub deed : Deed
+  pub done : did deed
+  pub ends : Ends deed
+  pub asks : AsksOnly parts deed.entries
 
--- a call read a part and gave these bytes, or it read nothing and has a cause; only a clock that stands still has a
--- pause that came short
-abbrev pub ReadEnds : Base → Part → List ℕ → Result Unit CallFault → List Entry → List Call → List Tick
-    → Type 0
-ReadEnds base part bytes (Ok done) entries calls ticks =
-    (outcomes_of entries ≡ ReadDone part ∷ []) × (bytes_read entries ≡ bytes) × PausesReach ticks
-ReadEnds base part bytes (Err fault) entries calls ticks =
-    (outcomes_of entries ≡ []) × ReachesBut fault ticks × HasCause base fault entries calls ticks
+-- what reading a part did, and the bytes that it gave
+abbrev pub ReadDoes : Base → (Deed → Type 0) → Part → List ℕ → Result Unit CallFault → Type 0
+ReadDoes base did part bytes result =
+    Does did (part ∷ [])
+    (λ (deed : Deed). GoalEnds base (ReadDone part ∷ []) result deed × GivesBytes bytes result deed)
 
-abbrev pub ReadDoes : Base → (List Entry → List Call → List Tick → Type 0) → Part → List ℕ → Result Unit CallFault
-    → Type 0
-ReadDoes base did part bytes result = Does did (part ∷ []) (ReadEnds base part bytes result)
-
--- a call wrote these bytes to a part, or it wrote nothing and has a cause
-abbrev pub WriteEnds : Base → Part → List ℕ → Result Unit CallFault → List Entry → List Call → List Tick
-    → Type 0
-WriteEnds base part bytes (Ok done) entries calls ticks =
-    (outcomes_of entries ≡ WriteDone part bytes ∷ []) × PausesReach ticks
-WriteEnds base part bytes (Err fault) entries calls ticks =
-    (outcomes_of entries ≡ []) × ReachesBut fault ticks × HasCause base fault entries calls ticks
-
-abbrev pub WriteDoes : Base → (List Entry → List Call → List Tick → Type 0) → Part → List ℕ → Result Unit CallFault
-    → Type 0
-WriteDoes base did part bytes result = Does did (part ∷ []) (WriteEnds base part bytes result)
+-- what writing these bytes to a part did
+abbrev pub WriteDoes : Base → (Deed → Type 0) → Part → List ℕ → Result Unit CallFault → Type 0
+WriteDoes base did part bytes result = Does did (part ∷ []) (GoalEnds base (WriteDone part bytes ∷ []) result)
 
 -- what a flush with this mark wants done
 abbrev pub flush_of : ℕ → List Outcome
@@ -218,10 +223,8 @@ IsOfNoRead (StaleRead block expected shown begun) = ⊥
 IsOfNoRead other = Unit {0}
 
 -- a flush began and ended with one mark, or it did not and has a cause
-abbrev pub FlushEnds : Base → Result Unit CallFault → List Entry → List Call → List Tick → Type 0
-FlushEnds base (Ok done) entries calls ticks = (mark : ℕ) × (outcomes_of entries ≡ flush_of mark) × PausesReach ticks
-FlushEnds base (Err fault) entries calls ticks =
-    (mark : ℕ) × Stops base (flush_of mark) entries calls ticks fault × IsOfNoRead fault
+abbrev pub FlushEnds : Base → Result Unit CallFault → Deed → Type 0
+FlushEnds base result deed = (mark : ℕ) × GoalEnds base (flush_of mark) result deed × IfErr result IsOfNoRead
 
-abbrev pub FlushDoes : Base → (List Entry → List Call → List Tick → Type 0) → Result Unit CallFault → Type 0
+abbrev pub FlushDoes : Base → (Deed → Type 0) → Result Unit CallFault → Type 0
 FlushDoes base did result = Does did [] (FlushEnds base result)

@@ -16,6 +16,7 @@ use Rattle.sb_core.specs.declared.machine.Core.{Core}
 use Rattle.sb_core.specs.Represents.{Represents, geometry_of, settings_of, reading_of}
 use Rattle.sb_core.specs.Progress.{SameBase}
 use Rattle.sb_crew.specs.Names.{Naming, name_of}
+use Rattle.sb_crew.specs.Scenes.{DiskScene, Scene, Deed}
 use Rattle.sb_crew.specs.Counts.{Asked}
 
 -- the one caller of a disk on one thread
@@ -40,57 +41,48 @@ next_ticks (Some now) = tick.Taken now ∷ []
 
 -- an event at a reading: the names stay, the core added this entry to each history of this kind that it represents,
 -- and the tape has it
-pub record EventWhere (Is : List Entry → Type 0) (names names' : Naming) (core core' : Core)
-    (tape tape' : Option (List Entry)) (now : ℕ) (entry : Entry) : Type 0 where
-  pub same_names : names' ≡ names
-  pub base : SameBase core core'
-  pub history : (past : List Entry) → Is past → Represents core past → Represents core' (entry ∷ past)
+pub record EventWhere (Is : List Entry → Type 0) (before after : DiskScene) (now : ℕ) (entry : Entry) : Type 0 where
+  pub same_names : after.names ≡ before.names
+  pub base : SameBase before.core after.core
+  pub history : (past : List Entry) → Is past → Represents before.core past → Represents after.core (entry ∷ past)
   pub of_pass : entry.pass ≡ 1
-  pub reading : entry.reading ≡ max now (reading_of core)
-  pub told : Gains tape tape' (entry ∷ [])
+  pub reading : entry.reading ≡ max now (reading_of before.core)
+  pub told : Gains before.tape after.tape (entry ∷ [])
 
 -- the same for histories of every kind
-abbrev pub Event : Naming → Naming → Core → Core → Option (List Entry) → Option (List Entry) → ℕ → Entry → Type 0
-Event names names' core core' tape tape' now entry = EventWhere any_past names names' core core' tape tape' now entry
+abbrev pub Event : DiskScene → DiskScene → ℕ → Entry → Type 0
+Event before after now entry = EventWhere any_past before after now entry
 
 -- an event at a reading, and what the clock gave then: the ticks of its pause, if it has one, and the next reading, if
 -- one was taken
-pub record TurnWhere (Is : List Entry → Type 0) (names names' : Naming) (core core' : Core)
-    (tape tape' : Option (List Entry)) (clock clock' : Option (List Tick)) (now : ℕ) (entry : Entry)
-    (next : Option ℕ) (after : List Tick) : Type 0 where
-  pub event : EventWhere Is names names' core core' tape tape' now entry
+pub record TurnWhere (Is : List Entry → Type 0) (before after : DiskScene) (clock clock' : Option (List Tick))
+    (now : ℕ) (entry : Entry) (next : Option ℕ) (ticks : List Tick) : Type 0 where
+  pub event : EventWhere Is before after now entry
   pub pause : Option ℕ
-  pub pauses : (past : List Entry) → Is past → Represents core past
-      → PausesAfter (geometry_of core) (settings_of core) past now entry.kind pause
-  pub paused : PauseTicks true now next pause after
-  pub readings : Gains clock clock' (next_ticks next ++ after)
+  pub pauses : (past : List Entry) → Is past → Represents before.core past
+      → PausesAfter (geometry_of before.core) (settings_of before.core) past now entry.kind pause
+  pub paused : PauseTicks true now next pause ticks
+  pub readings : Gains clock clock' (next_ticks next ++ ticks)
 
 -- the names stay, the core added these entries to each history of this kind that it represents, the tape has them, and
 -- the clock gave their readings, and then the next one, if one was taken
-pub record RunsWhere (Is : List Entry → Type 0) (names names' : Naming) (core core' : Core)
-    (tape tape' : Option (List Entry)) (clock clock' : Option (List Tick)) (entries : List Entry)
-    (ticks : List Tick) (next : Option ℕ) : Type 0 where
-  pub same_names : names' ≡ names
-  pub base : SameBase core core'
-  pub history : (past : List Entry) → Is past → Represents core past → Represents core' (entries ++ past)
+pub record RunsWhere (Is : List Entry → Type 0) (before after : DiskScene) (clock clock' : Option (List Tick))
+    (entries : List Entry) (ticks : List Tick) (next : Option ℕ) : Type 0 where
+  pub same_names : after.names ≡ before.names
+  pub base : SameBase before.core after.core
+  pub history : (past : List Entry) → Is past → Represents before.core past → Represents after.core (entries ++ past)
   pub of_pass : IsOfPass 1 entries
-  pub told : Gains tape tape' entries
+  pub told : Gains before.tape after.tape entries
   pub readings : Gains clock clock' (next_ticks next ++ ticks)
-  pub trace : (past : List Entry) → Is past → Represents core past
-      → ClockTrace (geometry_of core) (settings_of core) only_caller past entries next ticks
+  pub trace : (past : List Entry) → Is past → Represents before.core past
+      → ClockTrace (geometry_of before.core) (settings_of before.core) only_caller past entries next ticks
 
 -- these entries were added, and the link's log gained just the calls that they stand for, under the disk's names
-pub record DidWhere (Is : List Entry → Type 0) (names names' : Naming) (core core' : Core)
-    (tape tape' : Option (List Entry)) (log log' : Option (List Call)) (faults faults' : ℕ)
-    (clock clock' : Option (List Tick)) (entries : List Entry) (calls : List Call) (ticks : List Tick)
-    (next : Option ℕ) : Type 0 where
-  pub runs : RunsWhere Is names names' core core' tape tape' clock clock' entries ticks next
-  pub asked : Asked log log' faults faults' calls
-  pub requests : RequestLog (name_of names) (Some names.meta) entries calls
+pub record DidWhere (Is : List Entry → Type 0) (before after : Scene) (deed : Deed) (next : Option ℕ) : Type 0 where
+  pub runs : RunsWhere Is before.disk after.disk before.ticks after.ticks deed.entries deed.ticks next
+  pub asked : Asked before.log after.log before.faults after.faults deed.calls
+  pub requests : RequestLog (name_of before.disk.names) (Some before.disk.names.meta) deed.entries deed.calls
 
 -- the same for histories of every kind, with no reading taken ahead
-abbrev pub Did : Naming → Naming → Core → Core → Option (List Entry) → Option (List Entry) → Option (List Call)
-    → Option (List Call) → ℕ → ℕ → Option (List Tick) → Option (List Tick) → List Entry → List Call → List Tick
-    → Type 0
-Did names names' core core' tape tape' log log' faults faults' clock clock' entries calls ticks =
-    DidWhere any_past names names' core core' tape tape' log log' faults faults' clock clock' entries calls ticks None
+abbrev pub Did : Scene → Scene → Deed → Type 0
+Did before after deed = DidWhere any_past before after deed None

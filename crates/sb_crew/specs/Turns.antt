@@ -18,39 +18,37 @@ use Rattle.sb_history.specs.Requests.{meta_of, put_call}
 use Rattle.sb_core.specs.declared.machine.Core.{Core}
 use Rattle.sb_core.specs.declared.job.GetJob.{GetJob}
 use Rattle.sb_core.specs.Progress.{IsCloser, HoldsNothing}
+use Rattle.sb_crew.specs.Scenes.{Scene, Deed, deed_of}
 use Rattle.sb_crew.specs.Bases.{Base, base_of}
 use Rattle.sb_crew.specs.Names.{Naming, name_of}
 use Rattle.sb_crew.specs.Answers.{shown_for}
 use Rattle.sb_crew.specs.declared.calls.CallFault.{CallFault}
 use Rattle.sb_crew.specs.declared.calls.CallFault.TheVariants.{ClockStalled}
-use Rattle.sb_crew.specs.Outcomes.{Outcome, outcomes_of, bytes_read, AsksOnly, HasCause, PausesReach, ReachesBut}
+use Rattle.sb_crew.specs.Outcomes.{Outcome, outcomes_of, bytes_read, AsksOnly, HasCause, NoneFail, PausesReach, ReachesBut}
 use Rattle.sb_crew.specs.Runs.{any_past, TurnWhere, DidWhere}
 
 -- what a call did so far, with the next reading taken: these outcomes, no bytes that it wants, and it asked for no
 -- other blocks than those of these parts. It led to histories of this kind.
-pub record SoFar (Then : List Entry → Type 0) (met : List Outcome) (names names' : Naming) (core core' : Core)
-    (tape tape' : Option (List Entry)) (log log' : Option (List Call)) (faults faults' : ℕ)
-    (clock clock' : Option (List Tick)) (parts : List Part) (now : ℕ) : Type 0 where
-  pub entries : List Entry
-  pub calls : List Call
-  pub ticks : List Tick
-  pub done : DidWhere any_past names names' core core' tape tape' log log' faults faults' clock clock' entries calls
-      ticks (Some now)
-  pub met_so : outcomes_of entries ≡ met
-  pub no_bytes : bytes_read entries ≡ []
-  pub reached : PausesReach (tick.Taken now ∷ ticks)
-  pub asks : AsksOnly parts entries
-  pub leads : (past : List Entry) → Then (entries ++ past)
+pub record SoFar (Then : List Entry → Type 0) (met : List Outcome) (before after : Scene) (parts : List Part)
+    (now : ℕ) : Type 0 where
+  pub deed : Deed
+  pub done : DidWhere any_past before after deed (Some now)
+  pub met_so : outcomes_of deed.entries ≡ met
+  pub no_bytes : bytes_read deed.entries ≡ []
+  pub reached : PausesReach (tick.Taken now ∷ deed.ticks)
+  pub none_fail : NoneFail deed.entries
+  pub asks : AsksOnly parts deed.entries
+  pub leads : (past : List Entry) → Then (deed.entries ++ past)
 
 -- the next reading, where a call goes on
 abbrev pub next_of : Result ℕ CallFault → Option ℕ
 next_of (Ok now) = Some now
 next_of (Err fault) = None
 
--- where a call of a disk with this base doesn't go on, these entries, calls of the link and ticks are the cause
-abbrev pub HasCauseIf : Base → List Entry → List Call → List Tick → Result ℕ CallFault → Type 0
-HasCauseIf base entries calls ticks (Ok now) = Unit {0}
-HasCauseIf base entries calls ticks (Err fault) = HasCause base fault entries calls ticks
+-- where a call of a disk with this base goes on no request has failed, and else what it did is the cause
+abbrev pub RequestEnds : Base → Deed → Result ℕ CallFault → Type 0
+RequestEnds base deed (Ok now) = NoneFail deed.entries
+RequestEnds base deed (Err fault) = HasCause base fault deed
 
 -- the pauses of a call that goes on reach to its next reading, and those of one that failed but for the last one, where
 -- its clock stands still
@@ -107,23 +105,23 @@ get_ended job reading got bytes taken =
     record { pass = 1; reading = reading; kind = kind.GetEnd job.block (shown_for got bytes) job.verify taken }
 
 -- what a GET did: one call of the link, and its end at a reading that was taken for it
-pub record FetchDoes (names names' : Naming) (core core' : Core) (tape tape' : Option (List Entry))
-    (clock clock' : Option (List Tick)) (log log' : Option (List Call)) (faults faults' : ℕ) (job : GetJob)
+pub record FetchDoes (old new : Scene) (job : GetJob)
     (result : Result ℕ CallFault) : Type 0 where
   pub got : Result Got LinkFault
   pub bytes : List ℕ
-  pub called : Gains log log' (call.Get (name_of names job.block) job.verify (get_reply got bytes) ∷ [])
-  pub counted : CountsFaults faults faults' (HasFailed got)
+  pub called : Gains old.log new.log (call.Get (name_of old.disk.names job.block) job.verify (get_reply got bytes) ∷ [])
+  pub counted : CountsFaults old.faults new.faults (HasFailed got)
   pub later : ℕ
   pub between : Option (List Tick)
-  pub took : Gains clock between (tick.Taken later ∷ [])
+  pub took : Gains old.ticks between (tick.Taken later ∷ [])
   pub reading : ℕ
   pub taken : Bool
   pub after : List Tick
-  pub turn : TurnWhere any_past names names' core core' tape tape' between clock' later
+  pub turn : TurnWhere any_past old.disk new.disk between new.ticks later
       (get_ended job reading got bytes taken) (next_of result) after
-  pub cause : HasCauseIf (base_of core) (get_ended job reading got bytes taken ∷ get_begun job ∷ [])
-      (call.Get (name_of names job.block) job.verify (get_reply got bytes) ∷ []) (after ++ tick.Taken later ∷ []) result
+  pub cause : RequestEnds (base_of old.disk.core) (deed_of (get_ended job reading got bytes taken ∷ get_begun job ∷ [])
+      (call.Get (name_of old.disk.names job.block) job.verify (get_reply got bytes) ∷ [])
+      (after ++ tick.Taken later ∷ [])) result
   pub reaches : KeepsReaching later after result
 
 -- the call of a PUT, and the entry of its end
@@ -135,19 +133,18 @@ abbrev pub put_ended : ℕ → ℕ → Result Unit LinkFault → Entry
 put_ended block reading sent = record { pass = 1; reading = reading; kind = kind.PutEnd block (is_ok sent) }
 
 -- what a PUT did: one call of the link, and its end at a reading that was taken for it
-pub record StoreDoes (names names' : Naming) (core core' : Core) (tape tape' : Option (List Entry))
-    (clock clock' : Option (List Tick)) (log log' : Option (List Call)) (faults faults' : ℕ) (block : ℕ)
-    (content : List ℕ) (result : Result ℕ CallFault) : Type 0 where
+pub record StoreDoes (old new : Scene) (block : ℕ) (content : List ℕ)
+    (result : Result ℕ CallFault) : Type 0 where
   pub sent : Result Unit LinkFault
-  pub called : Gains log log' (put_sent names block content sent ∷ [])
-  pub counted : CountsFaults faults faults' (HasFailed sent)
+  pub called : Gains old.log new.log (put_sent old.disk.names block content sent ∷ [])
+  pub counted : CountsFaults old.faults new.faults (HasFailed sent)
   pub later : ℕ
   pub between : Option (List Tick)
-  pub took : Gains clock between (tick.Taken later ∷ [])
+  pub took : Gains old.ticks between (tick.Taken later ∷ [])
   pub reading : ℕ
   pub after : List Tick
-  pub turn : TurnWhere any_past names names' core core' tape tape' between clock' later
+  pub turn : TurnWhere any_past old.disk new.disk between new.ticks later
       (put_ended block reading sent) (next_of result) after
-  pub cause : HasCauseIf (base_of core) (put_ended block reading sent ∷ []) (put_sent names block content sent ∷ [])
-      (after ++ tick.Taken later ∷ []) result
+  pub cause : RequestEnds (base_of old.disk.core) (deed_of (put_ended block reading sent ∷ [])
+      (put_sent old.disk.names block content sent ∷ []) (after ++ tick.Taken later ∷ [])) result
   pub reaches : KeepsReaching later after result

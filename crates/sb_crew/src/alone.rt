@@ -83,6 +83,7 @@ impl<T: Tape> Alone<T> {
 impl<T: Tape, L: Link, C: Clock> Calls<Desk<L, C>> for Alone<T> {
     ghost use Rattle.sb_crew.specs.Bases.{base_of};
     ghost use Rattle.sb_crew.specs.Ready.{IsReady};
+    ghost use Rattle.sb_crew.specs.Disks.{scene_of};
     ghost use Rattle.sb_crew.specs.Runs.{Did};
     ghost use Rattle.sb_crew.specs.Joins.{did_join, did_nothing};
 
@@ -90,13 +91,12 @@ impl<T: Tape, L: Link, C: Clock> Calls<Desk<L, C>> for Alone<T> {
 
     ghost ready = { λ disk desk. IsReady disk.core disk.reading (vec_len desk.room) };
 
-    ghost did = { λ disk desk disk' desk' entries calls ticks. Did disk.names disk'.names disk.core disk'.core
-        (T.told disk.tape) (T.told disk'.tape) (L.log desk.link) (L.log desk'.link) (L.faults desk.link)
-        (L.faults desk'.link) (C.ticks desk.clock) (C.ticks desk'.clock) entries calls ticks };
+    ghost did = { λ disk desk disk' desk' deed. Did (scene_of T.Tape L.Link C.Clock disk desk)
+        (scene_of T.Tape L.Link C.Clock disk' desk') deed };
 
     ghost did_nothing = { λ disk desk. did_nothing };
 
-    ghost did_both = { λ d₁ k₁ d₂ k₂ d₃ k₃ xs ys us vs ss ts first second. did_join (λ past fits. fits) first second };
+    ghost did_both = { λ d₁ k₁ d₂ k₂ d₃ k₃ x y first second. did_join (λ past fits. fits) first second };
 
     fn geometry(&self) -> Geometry {
         self.core.geometry()

@@ -1,11 +1,9 @@
 //! What a session asks of a disk.
 
-ghost use Rattle.std.specs.Prelude.{◌≡◌, List, [], ◌++◌, length};
-ghost use Rattle.sb_base.specs.declared.entry.Entry.{Entry};
+ghost use Rattle.std.specs.Prelude.{◌≡◌, length};
 ghost use Rattle.sb_base.specs.Ranges.{IsPart};
-ghost use Rattle.sb_world.specs.declared.clock.Tick.{Tick};
-ghost use Rattle.sb_world.specs.declared.link.Call.{Call};
 ghost use Rattle.sb_crew.specs.Bases.{Base};
+ghost use Rattle.sb_crew.specs.Scenes.{Deed, nothing, followed};
 ghost use Rattle.sb_crew.specs.Outcomes.{ReadDoes, WriteDoes, FlushDoes};
 
 use sb_base::{Digest, Geometry, Part};
@@ -45,15 +43,14 @@ pub trait Calls<K> {
 
     /// What happened from one state of disk and desk to another: these entries, these calls of the link and these ticks
     /// of the clock, the newest first.
-    ghost did: { Self → K → Self → K → List Entry → List Call → List Tick → Type 0 };
+    ghost did: { Self → K → Self → K → Deed → Type 0 };
 
     /// Nothing happens from a state to itself.
-    ghost did_nothing: { (disk : Self) (desk : K) → did disk desk disk desk [] [] [] };
+    ghost did_nothing: { (disk : Self) (desk : K) → did disk desk disk desk nothing };
 
     /// What happened to one state and from there on happened in all.
-    ghost did_both: { (d₁ : Self) (k₁ : K) (d₂ : Self) (k₂ : K) (d₃ : Self) (k₃ : K) (xs ys : List Entry)
-        (us vs : List Call) (ss ts : List Tick) → did d₁ k₁ d₂ k₂ xs us ss → did d₂ k₂ d₃ k₃ ys vs ts
-        → did d₁ k₁ d₃ k₃ (ys ++ xs) (vs ++ us) (ts ++ ss) };
+    ghost did_both: { (d₁ : Self) (k₁ : K) (d₂ : Self) (k₂ : K) (d₃ : Self) (k₃ : K) (x y : Deed)
+        → did d₁ k₁ d₂ k₂ x → did d₂ k₂ d₃ k₃ y → did d₁ k₁ d₃ k₃ (followed x y) };
 
     /// Its size.
     fn geometry(&self) -> Geometry

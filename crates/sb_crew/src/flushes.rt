@@ -30,14 +30,14 @@ impl<T: Tape> Alone<T> {
     ghost use Rattle.sb_crew.specs.Bases.{base_of};
     ghost use Rattle.sb_crew.specs.Outcomes.{FlushDoes};
     ghost use Rattle.sb_crew.specs.Ready.{IsReady};
+    ghost use Rattle.sb_crew.specs.Disks.{disk_of, scene_of};
     ghost use Rattle.sb_crew.specs.Runs.{Event, EventWhere, HasBegun, Did};
 
     /// Begins a flush at a reading.
     fn begin_flush(&mut self, now: u64) -> Mark
         requires now { now ≤ 2 ^ 62 }
         requires current { self.old.reading ≡ reading_of self.old.core }
-        ensures event { Event self.old.names self.new.names self.old.core self.new.core (T.told self.old.tape)
-            (T.told self.new.tape) now (flush_begin_entry 1 self.new.reading result) }
+        ensures event { Event (disk_of T.Tape self.old) (disk_of T.Tape self.new) now (flush_begin_entry 1 self.new.reading result) }
         ensures idle { IsIdle self.old.core → IsIdle self.new.core }
         ensures current { self.new.reading ≡ reading_of self.new.core }
     {
@@ -50,8 +50,7 @@ impl<T: Tape> Alone<T> {
     fn ask_flush(&mut self, now: u64, room: &mut [u8], mark: Mark) -> FlushStep
         requires now { now ≤ 2 ^ 62 }
         requires ready { IsReady self.old.core self.old.reading (length room.old) }
-        ensures event { EventWhere (HasBegun mark) self.old.names self.new.names self.old.core self.new.core
-            (T.told self.old.tape) (T.told self.new.tape) now
+        ensures event { EventWhere (HasBegun mark) (disk_of T.Tape self.old) (disk_of T.Tape self.new) now
             (flush_step_entry 1 self.new.reading mark room.new result) }
         ensures answer { AnswersFlush self.old.core self.new.reading mark result }
         ensures copies { CopiesFlush self.old.core room.new result }
@@ -70,23 +69,18 @@ impl<T: Tape> Alone<T> {
         desk: &mut Desk<L, C>,
     ) -> Result<(), CallFault>
         requires ready { IsReady self.old.core self.old.reading (vec_len desk.old.room) }
-        ensures did { FlushDoes (base_of self.old.core) (Did self.old.names self.new.names self.old.core self.new.core
-            (T.told self.old.tape) (T.told self.new.tape) (L.log desk.old.link) (L.log desk.new.link)
-            (L.faults desk.old.link) (L.faults desk.new.link)
-            (C.ticks desk.old.clock) (C.ticks desk.new.clock)) result }
+        ensures did { let scene = scene_of T.Tape L.Link C.Clock in
+            FlushDoes (base_of self.old.core) (Did (scene self.old desk.old) (scene self.new desk.new)) result }
         ensures ready { IsReady self.new.core self.new.reading (vec_len desk.new.room) }
     {
-        let link = &mut desk.link;
-        let clock = &mut desk.clock;
-        let room = desk.room.as_mut_slice();
-        let begun = clock.now();
+        let begun = desk.clock.now();
         let mark = self.begin_flush(begun);
-        let mut now = clock.now();
+        let mut now = desk.clock.now();
         'turns: loop {
-            match self.ask_flush(now, room, mark) {
+            match self.ask_flush(now, desk.room.as_mut_slice(), mark) {
                 FlushStep::Done => return Ok(()),
-                FlushStep::Wait(why) => now = wait(clock, now, why)?,
-                FlushStep::Put(job) => now = self.store(link, clock, room, job)?,
+                FlushStep::Wait(why) => now = wait(&mut desk.clock, now, why)?,
+                FlushStep::Put(job) => now = self.store(desk, job)?,
             }
         }
     }

@@ -33,6 +33,7 @@ impl<T: Tape> Alone<T> {
     ghost use Rattle.sb_crew.specs.Bases.{base_of};
     ghost use Rattle.sb_crew.specs.Outcomes.{ReadDoes};
     ghost use Rattle.sb_crew.specs.Ready.{IsReady};
+    ghost use Rattle.sb_crew.specs.Disks.{disk_of, scene_of};
     ghost use Rattle.sb_crew.specs.Runs.{Event, Did};
 
     /// Asks the core to read a part at a reading.
@@ -41,8 +42,7 @@ impl<T: Tape> Alone<T> {
         requires ready { IsReady self.old.core self.old.reading (length room.old) }
         requires part { IsPart (geometry_of self.old.core) part }
         requires out { length out.old ≡ part.length }
-        ensures event { Event self.old.names self.new.names self.old.core self.new.core (T.told self.old.tape)
-            (T.told self.new.tape) now (read_entry 1 self.new.reading part out.new room.new result) }
+        ensures event { Event (disk_of T.Tape self.old) (disk_of T.Tape self.new) now (read_entry 1 self.new.reading part out.new room.new result) }
         ensures answer { AnswersRead self.old.core self.new.reading part.block result }
         ensures copies { CopiesRead self.old.core part out.new room.new result }
         ensures leads { ReadLeads self.old.core self.new.core 1 part.block result }
@@ -64,23 +64,18 @@ impl<T: Tape> Alone<T> {
         requires ready { IsReady self.old.core self.old.reading (vec_len desk.old.room) }
         requires part { IsPart (geometry_of self.old.core) part }
         requires out { length out.old ≡ part.length }
-        ensures did { ReadDoes (base_of self.old.core) (Did self.old.names self.new.names self.old.core self.new.core
-            (T.told self.old.tape) (T.told self.new.tape) (L.log desk.old.link) (L.log desk.new.link)
-            (L.faults desk.old.link) (L.faults desk.new.link)
-            (C.ticks desk.old.clock) (C.ticks desk.new.clock)) part out.new result }
+        ensures did { let scene = scene_of T.Tape L.Link C.Clock in
+            ReadDoes (base_of self.old.core) (Did (scene self.old desk.old) (scene self.new desk.new)) part out.new result }
         ensures ready { IsReady self.new.core self.new.reading (vec_len desk.new.room) }
     {
-        let link = &mut desk.link;
-        let clock = &mut desk.clock;
-        let room = desk.room.as_mut_slice();
-        let mut now = clock.now();
+        let mut now = desk.clock.now();
         'turns: loop {
-            match self.ask_read(now, room, part, out) {
+            match self.ask_read(now, desk.room.as_mut_slice(), part, out) {
                 ReadStep::Done => return Ok(()),
-                ReadStep::Wait(why) => now = wait(clock, now, why)?,
-                ReadStep::Get(job) => now = self.fetch(link, clock, room, job)?,
-                ReadStep::Dropped(_) => now = clock.now(),
-                ReadStep::Put(job) => now = self.store(link, clock, room, job)?,
+                ReadStep::Wait(why) => now = wait(&mut desk.clock, now, why)?,
+                ReadStep::Get(job) => now = self.fetch(desk, job)?,
+                ReadStep::Dropped(_) => now = desk.clock.now(),
+                ReadStep::Put(job) => now = self.store(desk, job)?,
             }
         }
     }

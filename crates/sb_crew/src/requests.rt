@@ -1,12 +1,13 @@
 //! The requests to the store that a core asks for.
 
-ghost use Rattle.std.specs.Prelude.{◌≡◌, ◌≤◌, ◌^◌, ◌∷◌, [], length, IfOk, IsOk};
+ghost use Rattle.std.specs.Prelude.{◌≡◌, ◌≤◌, ◌^◌, ◌∷◌, [], length, vec_len, IfOk, IsOk};
 ghost use Rattle.sb_base.specs.Lines.{shown_of};
 ghost use Rattle.sb_core.specs.Steps.{is_taken};
 ghost use Rattle.sb_crew.specs.Answers.{shown_for, fault_for, is_late};
 
 use crate::alone::{Alone, PASS};
 use crate::calls::CallFault;
+use crate::desk::Desk;
 use crate::pauses::pause;
 use sb_base::{Answer, Expect, Kind};
 use sb_core::{GetDone, GetJob, PutJob};
@@ -68,6 +69,7 @@ impl<T: Tape> Alone<T> {
     ghost use Rattle.sb_core.specs.Steps.{HasGet, HasPut, get_end_answer, get_end_entry};
     ghost use Rattle.sb_crew.specs.Names.{name_of};
     ghost use Rattle.sb_crew.specs.Ready.{IsReady};
+    ghost use Rattle.sb_crew.specs.Disks.{disk_of, scene_of};
     ghost use Rattle.sb_crew.specs.Runs.{Event};
     ghost use Rattle.sb_crew.specs.Turns.{FetchDoes, StoreDoes, GoesOn, IsLatest, put_ended};
 
@@ -75,21 +77,21 @@ impl<T: Tape> Alone<T> {
     /// so that it is asked anew.
     pub(crate) fn fetch<L: Link, C: Clock>(
         &mut self,
-        link: &mut L,
-        clock: &mut C,
-        room: &mut [u8],
+        desk: &mut Desk<L, C>,
         job: GetJob,
     ) -> Result<u64, CallFault>
         requires job { HasGet self.old.core 1 job }
         requires current { self.old.reading ≡ reading_of self.old.core }
-        requires room { length room.old ≡ (geometry_of self.old.core).block_size }
-        ensures did { FetchDoes self.old.names self.new.names self.old.core self.new.core
-            (T.told self.old.tape) (T.told self.new.tape) (C.ticks clock.old) (C.ticks clock.new)
-            (L.log link.old) (L.log link.new) (L.faults link.old) (L.faults link.new) job result }
-        ensures ready { IsReady self.new.core self.new.reading (length room.new) }
-        ensures leads { IfOk result (GoesOn self.old.core self.new.core (C.latest clock.old)) }
-        ensures next { IfOk result (IsLatest (C.latest clock.new)) }
+        requires room { vec_len desk.old.room ≡ (geometry_of self.old.core).block_size }
+        ensures did { let scene = scene_of T.Tape L.Link C.Clock in
+            FetchDoes (scene self.old desk.old) (scene self.new desk.new) job result }
+        ensures ready { IsReady self.new.core self.new.reading (vec_len desk.new.room) }
+        ensures leads { IfOk result (GoesOn self.old.core self.new.core (C.latest desk.old.clock)) }
+        ensures next { IfOk result (IsLatest (C.latest desk.new.clock)) }
     {
+        let link = &mut desk.link;
+        let clock = &mut desk.clock;
+        let room = desk.room.as_mut_slice();
         let block = job.block();
         let verify = job.verify();
         let expect = job.expect();
@@ -132,8 +134,7 @@ impl<T: Tape> Alone<T> {
         requires asked { IsAsked got job.verify }
         requires current { self.old.reading ≡ reading_of self.old.core }
         requires room { length room.now ≡ (geometry_of self.old.core).block_size }
-        ensures event { Event self.old.names self.new.names self.old.core self.new.core
-            (T.told self.old.tape) (T.told self.new.tape) now
+        ensures event { Event (disk_of T.Tape self.old) (disk_of T.Tape self.new) now
             (get_end_entry 1 self.new.reading job (shown_for got room.now) result) }
         ensures answer { result
             ≡ get_end_answer (geometry_of self.old.core).block_size job (shown_for got room.now) }
@@ -162,22 +163,22 @@ impl<T: Tape> Alone<T> {
     /// reading.
     pub(crate) fn store<L: Link, C: Clock>(
         &mut self,
-        link: &mut L,
-        clock: &mut C,
-        room: &[u8],
+        desk: &mut Desk<L, C>,
         job: PutJob,
     ) -> Result<u64, CallFault>
         requires job { HasPut self.old.core 1 job }
-        requires zeros { job.zeros ≡ is_zeros room.now }
+        requires zeros { job.zeros ≡ is_zeros desk.old.room.items }
         requires current { self.old.reading ≡ reading_of self.old.core }
-        requires room { length room.now ≡ (geometry_of self.old.core).block_size }
-        ensures did { StoreDoes self.old.names self.new.names self.old.core self.new.core
-            (T.told self.old.tape) (T.told self.new.tape) (C.ticks clock.old) (C.ticks clock.new)
-            (L.log link.old) (L.log link.new) (L.faults link.old) (L.faults link.new) job.block room.now result }
-        ensures ready { IsReady self.new.core self.new.reading (length room.now) }
+        requires room { vec_len desk.old.room ≡ (geometry_of self.old.core).block_size }
+        ensures did { let scene = scene_of T.Tape L.Link C.Clock in
+            StoreDoes (scene self.old desk.old) (scene self.new desk.new) job.block desk.old.room.items result }
+        ensures ready { IsReady self.new.core self.new.reading (vec_len desk.new.room) }
         ensures closer { IfOk result (λ next. IsCloser self.old.core self.new.core) }
-        ensures next { IfOk result (IsLatest (C.latest clock.new)) }
+        ensures next { IfOk result (IsLatest (C.latest desk.new.clock)) }
     {
+        let link = &mut desk.link;
+        let clock = &mut desk.clock;
+        let room = desk.room.as_slice();
         let block = job.block();
         let sent = self.send(link, room, block, job.zeros());
         let now = clock.now();
@@ -194,8 +195,7 @@ impl<T: Tape> Alone<T> {
         requires job { HasPut self.old.core 1 job }
         requires current { self.old.reading ≡ reading_of self.old.core }
         requires room { length room.now ≡ (geometry_of self.old.core).block_size }
-        ensures event { Event self.old.names self.new.names self.old.core self.new.core
-            (T.told self.old.tape) (T.told self.new.tape) now (put_ended job.block self.new.reading sent) }
+        ensures event { Event (disk_of T.Tape self.old) (disk_of T.Tape self.new) now (put_ended job.block self.new.reading sent) }
         ensures ready { IsReady self.new.core self.new.reading (length room.now) }
         ensures closer { IsOk sent → IsCloser self.old.core self.new.core }
     {

@@ -33,6 +33,7 @@ impl<T: Tape> Alone<T> {
     ghost use Rattle.sb_crew.specs.Bases.{base_of};
     ghost use Rattle.sb_crew.specs.Outcomes.{WriteDoes};
     ghost use Rattle.sb_crew.specs.Ready.{IsReady};
+    ghost use Rattle.sb_crew.specs.Disks.{disk_of, scene_of};
     ghost use Rattle.sb_crew.specs.Runs.{Event, Did};
 
     /// Asks the core to write a part at a reading.
@@ -41,8 +42,7 @@ impl<T: Tape> Alone<T> {
         requires ready { IsReady self.old.core self.old.reading (length room.old) }
         requires part { IsPart (geometry_of self.old.core) part }
         requires bytes { length bytes.now ≡ part.length }
-        ensures event { Event self.old.names self.new.names self.old.core self.new.core (T.told self.old.tape)
-            (T.told self.new.tape) now (write_entry 1 self.new.reading part bytes.now room.new result) }
+        ensures event { Event (disk_of T.Tape self.old) (disk_of T.Tape self.new) now (write_entry 1 self.new.reading part bytes.now room.new result) }
         ensures answer { AnswersWrite self.old.core self.new.reading part result }
         ensures copies { CopiesWrite self.old.core room.new result }
         ensures leads { WriteLeads self.old.core self.new.core 1 part.block result }
@@ -64,23 +64,18 @@ impl<T: Tape> Alone<T> {
         requires ready { IsReady self.old.core self.old.reading (vec_len desk.old.room) }
         requires part { IsPart (geometry_of self.old.core) part }
         requires bytes { length bytes.now ≡ part.length }
-        ensures did { WriteDoes (base_of self.old.core) (Did self.old.names self.new.names self.old.core self.new.core
-            (T.told self.old.tape) (T.told self.new.tape) (L.log desk.old.link) (L.log desk.new.link)
-            (L.faults desk.old.link) (L.faults desk.new.link)
-            (C.ticks desk.old.clock) (C.ticks desk.new.clock)) part bytes.now result }
+        ensures did { let scene = scene_of T.Tape L.Link C.Clock in
+            WriteDoes (base_of self.old.core) (Did (scene self.old desk.old) (scene self.new desk.new)) part bytes.now result }
         ensures ready { IsReady self.new.core self.new.reading (vec_len desk.new.room) }
     {
-        let link = &mut desk.link;
-        let clock = &mut desk.clock;
-        let room = desk.room.as_mut_slice();
-        let mut now = clock.now();
+        let mut now = desk.clock.now();
         'turns: loop {
-            match self.ask_write(now, room, part, bytes) {
+            match self.ask_write(now, desk.room.as_mut_slice(), part, bytes) {
                 WriteStep::Done => return Ok(()),
-                WriteStep::Wait(why) => now = wait(clock, now, why)?,
-                WriteStep::Get(job) => now = self.fetch(link, clock, room, job)?,
-                WriteStep::Dropped(_) => now = clock.now(),
-                WriteStep::Put(job) => now = self.store(link, clock, room, job)?,
+                WriteStep::Wait(why) => now = wait(&mut desk.clock, now, why)?,
+                WriteStep::Get(job) => now = self.fetch(desk, job)?,
+                WriteStep::Dropped(_) => now = desk.clock.now(),
+                WriteStep::Put(job) => now = self.store(desk, job)?,
             }
         }
     }

@@ -9,6 +9,8 @@ use Rattle.sb_crew.specs.Outcomes.{Outcome, FlushEnded}
 use Rattle.sb_crew.proofs.Asking.{ahead}
 use Rattle.sb_crew.proofs.Pausing.{pause_reads_nothing}
 use Rattle.sb_crew.proofs.Requesting.{put_reads_nothing}
+use Rattle.sb_crew.proofs.Flushing.{flush_stops}
+use Rattle.sb_crew.proofs.Rooms.{slice_back}
 use Rattle.sb_crew.proofs.Turning.{begun_lasts, begins_flush, after_wait, after_put, ends_with, wait_fails, put_fails}
 use Rattle.sb_crew.proofs.alone.Alone.flush_writes.Goals as goal
 
@@ -19,7 +21,7 @@ turns-init g c = record {
   ready = record {
     idle = c.begin_flush-mark.ensures.idle c.requires.ready.idle;
     current = c.begin_flush-mark.ensures.current;
-    whole_room = c.as_mut_slice-room.ensures.len ∙ c.requires.ready.whole_room
+    whole_room = c.requires.ready.whole_room
         ∙ ap (λ (geometry : Geometry). geometry.block_size) (sym c.begin_flush-mark.ensures.event.base.geometry);
   };
   latest = record { is = c.now-now.ensures.latest; limit = c.now-now.ensures.limit };
@@ -40,7 +42,7 @@ turns-preserved-in-Wait g c =
       ready = record {
         idle = ap is_idle c.in-Wait.ensures.leads.state ∙ c.turns.invariant.ready.idle;
         current = c.ask_flush.ensures.current;
-        whole_room = c.ask_flush.auto.room ∙ c.turns.invariant.ready.whole_room
+        whole_room = c.turns.invariant.ready.whole_room
             ∙ ap (λ (geometry : Geometry). geometry.block_size) (sym c.ask_flush.ensures.event.base.geometry);
       };
       latest = c.in_ok-now-in-Wait.ensures.paused.next;
@@ -51,7 +53,7 @@ turns-preserved g c = record {
   so_far = after_put (begun_lasts c.begin_flush-mark.result) c.turns.invariant.so_far c.ask_flush.new.self.reading
       c.in-Put.job.block c.ask_flush.new.room
       (ap (flush_step_entry 1 c.ask_flush.new.self.reading c.begin_flush-mark.result c.ask_flush.new.room) c.in-Put.is)
-      c.ask_flush.ensures.event c.in_ok-now-in-Put.ensures.did;
+      c.ask_flush.ensures.event (rw (slice_back c.ask_flush.new.room _ c.turns.desk.room.len (c.ask_flush.auto.room ∙ c.as_mut_slice.ensures.len)) at c.in_ok-now-in-Put.ensures.did);
   ready = c.store.ensures.ready;
   latest = c.in_ok-now-in-Put.ensures.next;
 }
@@ -61,68 +63,31 @@ returns-in-Done-clause-did g c =
     let mark = c.begin_flush-mark.result in
     let ended = ends_with c.turns.invariant.so_far c.ask_flush.new.self.reading (kind.FlushDone mark)
     (ap (flush_step_entry 1 c.ask_flush.new.self.reading mark c.ask_flush.new.room) c.in-Done.is)
-    refl refl (λ past. refl) c.ask_flush.ensures.event in
+    refl refl (λ fails. fails) (λ past. refl) c.ask_flush.ensures.event in
     record {
-      entries = ended.entries;
-      calls = ended.calls;
-      ticks = ended.ticks;
+      deed = ended.deed;
       done = ended.done;
-      ends = (mark, ended.ends.0, ended.ends.2);
+      ends = (mark, ended.ends.0, tt);
       asks = ended.asks;
     }
 
 pub returns-in_err-now-in-Wait-clause-did : goal.returns-in_err-now-in-Wait-clause-did
 returns-in_err-now-in-Wait-clause-did g c =
     let mark = c.begin_flush-mark.result in
-    let ended = wait_fails c.turns.invariant.so_far c.ask_flush.new.self.reading c.in-Wait.why
-    c.in_err-now-in-Wait.field-0.0
+    let ended = wait_fails c.turns.invariant.so_far (FlushEnded mark ∷ []) c.ask_flush.new.self.reading c.in-Wait.why
+    c.in_err-now-in-Wait.field-0.0 (omega (arith))
     (ap (flush_step_entry 1 c.ask_flush.new.self.reading mark c.ask_flush.new.room) c.in-Wait.is)
     c.ask_flush.ensures.event c.in_err-now-in-Wait.ensures in
     let failed = err_from_is_err_and c.from_residual.result c.from_residual.ensures.1 in
-    rw (failed.1, failed.2) record {
-      entries = ended.entries;
-      calls = ended.calls;
-      ticks = ended.ticks;
-      done = ended.done;
-      ends = (
-        mark,
-        record {
-          missing = FlushEnded mark ∷ [];
-          some = omega (arith);
-          met = ap (λ (os : List Outcome). FlushEnded mark ∷ os) ended.ends.0;
-          reached = ended.ends.1;
-          cause = ended.ends.2;
-        },
-        pause_reads_nothing c.in_err-now-in-Wait.ensures.paused,
-      );
-      asks = ended.asks;
-    }
+    rw (failed.1, failed.2) (flush_stops mark ended (pause_reads_nothing c.in_err-now-in-Wait.ensures.paused))
 
 pub returns-in_err-now-in-Put-clause-did : goal.returns-in_err-now-in-Put-clause-did
 returns-in_err-now-in-Put-clause-did g c =
     let mark = c.begin_flush-mark.result in
-    let ended = put_fails c.turns.invariant.so_far c.ask_flush.new.self.reading c.in-Put.job.block c.ask_flush.new.room
-    c.in_err-now-in-Put.field-0.0
+    let ended = put_fails c.turns.invariant.so_far (FlushEnded mark ∷ []) c.ask_flush.new.self.reading c.in-Put.job.block c.ask_flush.new.room
+    c.in_err-now-in-Put.field-0.0 (omega (arith))
     (ap (flush_step_entry 1 c.ask_flush.new.self.reading mark c.ask_flush.new.room) c.in-Put.is)
-    c.ask_flush.ensures.event c.in_err-now-in-Put.ensures.did in
+    c.ask_flush.ensures.event (rw (slice_back c.ask_flush.new.room _ c.turns.desk.room.len (c.ask_flush.auto.room ∙ c.as_mut_slice.ensures.len)) at c.in_err-now-in-Put.ensures.did) in
     let failed = err_from_is_err_and c.from_residual-in_err-now-in-Put.result
     c.from_residual-in_err-now-in-Put.ensures.1 in
-    rw (failed.1, failed.2) record {
-      entries = ended.entries;
-      calls = ended.calls;
-      ticks = ended.ticks;
-      done = ended.done;
-      ends = (
-        mark,
-        record {
-          missing = FlushEnded mark ∷ [];
-          some = omega (arith);
-          met = ap (λ (os : List Outcome). FlushEnded mark ∷ os) ended.ends.0;
-          reached = ended.ends.1;
-          cause = ended.ends.2;
-        },
-        put_reads_nothing (base_of c.ask_flush.new.self.core) c.in_err-now-in-Put.field-0.0 _ _ _
-            c.in_err-now-in-Put.ensures.did.cause,
-      );
-      asks = ended.asks;
-    }
+    rw (failed.1, failed.2) (flush_stops mark ended (put_reads_nothing (base_of c.ask_flush.new.self.core) c.in_err-now-in-Put.field-0.0 _ _ _ c.in_err-now-in-Put.ensures.did.cause))

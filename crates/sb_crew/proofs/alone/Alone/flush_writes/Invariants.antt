@@ -1,5 +1,6 @@
-use Rattle.std.proofs.Common.{◌+◌, ◌*◌, ◌-◌, ◌^◌, [], ◌∷◌, length}
+use Rattle.std.proofs.Common.{◌+◌, ◌*◌, ◌-◌, ◌^◌, [], ◌∷◌, length, vec_len}
 use Rattle.sb_core.specs.Progress.{steps_left}
+use Rattle.sb_crew.specs.Disks.{scene_of}
 use Rattle.sb_crew.specs.Outcomes.{FlushBegun}
 use Rattle.sb_crew.specs.Ready.{IsReady}
 use Rattle.sb_crew.specs.Runs.{HasBegun}
@@ -9,14 +10,11 @@ use Rattle.sb_crew.proofs.alone.Alone.flush_writes.Given as goal
 -- the flush has begun, and is not done
 abbrev pub invariant-turns : goal.invariant-turns
 invariant-turns g l =
+    let scene = scene_of g.T.Tape g.L.Link g.C.Clock in
     record {
-      so_far : SoFar (HasBegun l.mark) (FlushBegun l.mark ∷ []) l.fn.self.names l.self.names
-          l.fn.self.core l.self.core (g.T.Tape.told l.fn.self.tape) (g.T.Tape.told l.self.tape)
-          (g.L.Link.log l.fn.desk.link) (g.L.Link.log l.link)
-          (g.L.Link.faults l.fn.desk.link) (g.L.Link.faults l.link) (g.C.Clock.ticks l.fn.desk.clock)
-          (g.C.Clock.ticks l.clock) [] l.now;
-      ready : IsReady l.self.core l.self.reading (length l.room);
-      latest : IsLatest (g.C.Clock.latest l.clock) l.now;
+      so_far : SoFar (HasBegun l.mark) (FlushBegun l.mark ∷ []) (scene l.fn.self l.fn.desk) (scene l.self l.desk) [] l.now;
+      ready : IsReady l.self.core l.self.reading (vec_len l.desk.room);
+      latest : IsLatest (g.C.Clock.latest l.desk.clock) l.now;
     }
 
 -- fewer steps are left, or time went on, up to the last reading that a clock gives

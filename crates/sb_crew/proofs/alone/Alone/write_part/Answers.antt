@@ -1,4 +1,4 @@
-use Rattle.std.proofs.Common.{◌∙◌, refl, sym, ap, subst, inl}
+use Rattle.std.proofs.Common.{◌∙◌, refl, sym, ap, subst, inl, [], ◌∷◌, arith}
 use Rattle.std.proofs.lemmas.Result.{err_from_is_err_and}
 use Rattle.sb_base.specs.declared.geometry.Geometry.{Geometry}
 use Rattle.sb_base.specs.declared.entry.EntryKind.TheVariants as kind
@@ -7,8 +7,10 @@ use Rattle.sb_core.specs.Steps.{write_entry}
 use Rattle.sb_core.specs.Progress.{is_idle}
 use Rattle.sb_crew.proofs.Asking.{begun_entry, ahead}
 use Rattle.sb_crew.proofs.Measures.{less_behind_get}
+use Rattle.sb_crew.proofs.Rooms.{slice_back}
 use Rattle.sb_crew.proofs.Turning.{any_lasts, starts, after_drop, after_wait, after_get, after_put, ends_with}
 use Rattle.sb_crew.proofs.Turning.{wait_fails, get_fails, put_fails}
+use Rattle.sb_crew.specs.Outcomes.{WriteDone}
 use Rattle.sb_crew.proofs.alone.Alone.write_part.Goals as goal
 
 pub turns-init : goal.turns-init
@@ -17,7 +19,7 @@ turns-init g c = record {
   ready = record {
     idle = c.requires.ready.idle;
     current = c.requires.ready.current;
-    whole_room = c.as_mut_slice-room.ensures.len ∙ c.requires.ready.whole_room;
+    whole_room = c.requires.ready.whole_room;
   };
   part = c.requires.part;
   latest = record { is = c.now-now.ensures.latest; limit = c.now-now.ensures.limit };
@@ -28,13 +30,11 @@ returns-in-Done-clause-did g c =
     let ended = ends_with c.turns.invariant.so_far c.ask_write.new.self.reading
     (kind.Write c.args.part c.args.bytes.now)
     (ap (write_entry 1 c.ask_write.new.self.reading c.args.part c.args.bytes.now c.ask_write.new.room)
-    c.in-Done.is) refl refl (λ past. refl) c.ask_write.ensures.event in
+    c.in-Done.is) refl refl (λ fails. fails) (λ past. refl) c.ask_write.ensures.event in
     record {
-      entries = ended.entries;
-      calls = ended.calls;
-      ticks = ended.ticks;
+      deed = ended.deed;
       done = ended.done;
-      ends = (ended.ends.0, ended.ends.2);
+      ends = ended.ends.0;
       asks = ended.asks;
     }
 
@@ -45,19 +45,12 @@ wait-requires g c =
 
 pub returns-in_err-now-in-Wait-clause-did : goal.returns-in_err-now-in-Wait-clause-did
 returns-in_err-now-in-Wait-clause-did g c =
-    let ended = wait_fails c.turns.invariant.so_far c.ask_write.new.self.reading c.in-Wait.why
-    c.in_err-now-in-Wait.field-0.0
+    let ended = wait_fails c.turns.invariant.so_far (WriteDone c.args.part c.args.bytes.now ∷ []) c.ask_write.new.self.reading c.in-Wait.why
+    c.in_err-now-in-Wait.field-0.0 (omega (arith))
     (ap (write_entry 1 c.ask_write.new.self.reading c.args.part c.args.bytes.now c.ask_write.new.room) c.in-Wait.is)
     c.ask_write.ensures.event c.in_err-now-in-Wait.ensures in
     let failed = err_from_is_err_and c.from_residual.result c.from_residual.ensures.1 in
-    rw (failed.1, failed.2) record {
-      entries = ended.entries;
-      calls = ended.calls;
-      ticks = ended.ticks;
-      done = ended.done;
-      ends = ended.ends;
-      asks = ended.asks;
-    }
+    rw (failed.1, failed.2) ended
 
 pub turns-preserved-in-Wait : goal.turns-preserved-in-Wait
 turns-preserved-in-Wait g c =
@@ -69,7 +62,7 @@ turns-preserved-in-Wait g c =
       ready = record {
         idle = ap is_idle c.in-Wait.ensures.leads.state ∙ c.turns.invariant.ready.idle;
         current = c.ask_write.ensures.current;
-        whole_room = c.ask_write.auto.room ∙ c.turns.invariant.ready.whole_room
+        whole_room = c.turns.invariant.ready.whole_room
             ∙ ap (λ (geometry : Geometry). geometry.block_size) (sym c.ask_write.ensures.event.base.geometry);
       };
       latest = c.in_ok-now-in-Wait.ensures.paused.next;
@@ -81,20 +74,13 @@ turns-preserved-in-Wait g c =
 pub returns-in_err-now-in-Get-clause-did : goal.returns-in_err-now-in-Get-clause-did
 returns-in_err-now-in-Get-clause-did g c =
     let begun = c.in-Get.ensures.leads.reading ∙ sym c.ask_write.ensures.current in
-    let ended = get_fails c.turns.invariant.so_far c.in-Get.job c.in_err-now-in-Get.field-0.0
+    let ended = get_fails c.turns.invariant.so_far (WriteDone c.args.part c.args.bytes.now ∷ []) c.in-Get.job c.in_err-now-in-Get.field-0.0 (omega (arith))
     (ap (write_entry 1 c.ask_write.new.self.reading c.args.part c.args.bytes.now c.ask_write.new.room) c.in-Get.is
     ∙ begun_entry c.in-Get.job c.ask_write.new.self.reading begun)
     (inl (sym c.in-Get.ensures.leads.same_block)) c.ask_write.ensures.event c.in_err-now-in-Get.ensures.did in
     let failed = err_from_is_err_and c.from_residual-in_err-now-in-Get.result
     c.from_residual-in_err-now-in-Get.ensures.1 in
-    rw (failed.1, failed.2) record {
-      entries = ended.entries;
-      calls = ended.calls;
-      ticks = ended.ticks;
-      done = ended.done;
-      ends = ended.ends;
-      asks = ended.asks;
-    }
+    rw (failed.1, failed.2) ended
 
 pub turns-smaller-in-Get : goal.turns-smaller-in-Get
 turns-smaller-in-Get g c =
@@ -129,7 +115,7 @@ turns-preserved-in-Dropped g c =
       ready = record {
         idle = c.in-Dropped.ensures.leads.idle;
         current = c.ask_write.ensures.current;
-        whole_room = c.ask_write.auto.room ∙ c.turns.invariant.ready.whole_room
+        whole_room = c.turns.invariant.ready.whole_room
             ∙ ap (λ (geometry : Geometry). geometry.block_size) (sym c.ask_write.ensures.event.base.geometry);
       };
       latest = record { is = c.now-now-in-Dropped.ensures.latest; limit = c.now-now-in-Dropped.ensures.limit };
@@ -140,27 +126,20 @@ turns-preserved-in-Dropped g c =
 
 pub returns-in_err-now-in-Put-clause-did : goal.returns-in_err-now-in-Put-clause-did
 returns-in_err-now-in-Put-clause-did g c =
-    let ended = put_fails c.turns.invariant.so_far c.ask_write.new.self.reading c.in-Put.job.block
-    c.ask_write.new.room c.in_err-now-in-Put.field-0.0
+    let ended = put_fails c.turns.invariant.so_far (WriteDone c.args.part c.args.bytes.now ∷ []) c.ask_write.new.self.reading c.in-Put.job.block
+    c.ask_write.new.room c.in_err-now-in-Put.field-0.0 (omega (arith))
     (ap (write_entry 1 c.ask_write.new.self.reading c.args.part c.args.bytes.now c.ask_write.new.room) c.in-Put.is)
-    c.ask_write.ensures.event c.in_err-now-in-Put.ensures.did in
+    c.ask_write.ensures.event (rw (slice_back c.ask_write.new.room _ c.turns.desk.room.len (c.ask_write.auto.room ∙ c.as_mut_slice.ensures.len)) at c.in_err-now-in-Put.ensures.did) in
     let failed = err_from_is_err_and c.from_residual-in_err-now-in-Put.result
     c.from_residual-in_err-now-in-Put.ensures.1 in
-    rw (failed.1, failed.2) record {
-      entries = ended.entries;
-      calls = ended.calls;
-      ticks = ended.ticks;
-      done = ended.done;
-      ends = ended.ends;
-      asks = ended.asks;
-    }
+    rw (failed.1, failed.2) ended
 
 pub turns-preserved : goal.turns-preserved
 turns-preserved g c =
     let so_far = after_put any_lasts c.turns.invariant.so_far c.ask_write.new.self.reading c.in-Put.job.block
     c.ask_write.new.room
     (ap (write_entry 1 c.ask_write.new.self.reading c.args.part c.args.bytes.now c.ask_write.new.room) c.in-Put.is)
-    c.ask_write.ensures.event c.in_ok-now-in-Put.ensures.did in
+    c.ask_write.ensures.event (rw (slice_back c.ask_write.new.room _ c.turns.desk.room.len (c.ask_write.auto.room ∙ c.as_mut_slice.ensures.len)) at c.in_ok-now-in-Put.ensures.did) in
     record {
       so_far = so_far;
       ready = c.store.ensures.ready;
