@@ -79,12 +79,14 @@ pub cause_stays : (base : Base) (fault : CallFault) (x y : Deed) → NoneFail x.
 cause_stays base (StoreFault status) x y none cause =
     fails_still (link.Failed status) x.entries y.entries x.calls y.calls none cause
 cause_stays base Memory x y none cause = fails_still link.Memory x.entries y.entries x.calls y.calls none cause
-cause_stays base (StaleRead block expected shown begun) x y none cause =
-    (stale_still base block expected shown begun x.entries y.entries cause.0,
-    none_fail_join y.entries x.entries cause.1 none)
-cause_stays base (ClockStalled before asked after) x y none cause =
-    (stalled_still before asked after x.entries y.entries x.ticks y.ticks cause.0,
-    none_fail_join y.entries x.entries cause.1 none)
+cause_stays base (StaleRead block expected shown begun) x y none cause = (
+  stale_still base block expected shown begun x.entries y.entries cause.0,
+  none_fail_join y.entries x.entries cause.1 none,
+)
+cause_stays base (ClockStalled before asked after) x y none cause = (
+  stalled_still before asked after x.entries y.entries x.ticks y.ticks cause.0,
+  none_fail_join y.entries x.entries cause.1 none,
+)
 
 -- pauses that reach, behind others that do
 pub reaches_join : (ss ts : List Tick) → PausesReach ss → PausesReach ts → PausesReach (ts ++ ss)

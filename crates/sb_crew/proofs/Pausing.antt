@@ -9,22 +9,23 @@ use Rattle.sb_world.specs.declared.link.Call.{Call}
 use Rattle.sb_history.specs.ClockTrace.{PauseTicks}
 use Rattle.sb_crew.specs.Bases.{Base}
 use Rattle.sb_crew.specs.Scenes.{deed_of}
-use Rattle.sb_crew.specs.declared.calls.CallFault.{CallFault}
-use Rattle.sb_crew.specs.Outcomes.{PausesFor, HasCause, NoneFail, ReachesBut, IsOfNoRead}
+use Rattle.sb_crew.specs.declared.calls.FlushFault.{FlushFault}
+use Rattle.sb_crew.specs.Answers.{as_call, call_fault}
+use Rattle.sb_crew.specs.Outcomes.{PausesFor, HasCause, NoneFail, ReachesBut}
 use Rattle.sb_crew.specs.Runs.{next_ticks}
 use Rattle.sb_crew.specs.Turns.{next_of, RequestEnds, KeepsReaching, Pauses, PauseEnds}
 
 -- the ticks of a pause in a trace, the next reading, and the cause where it comes short
-pub record IsPaused (clock clock' : Option (List Tick)) (now millis : ℕ) (result : Result ℕ CallFault) : Type 0 where
+pub record IsPaused (clock clock' : Option (List Tick)) (now millis : ℕ) (result : Result ℕ FlushFault) : Type 0 where
   pub after : List Tick
-  pub paused : PauseTicks true now (next_of result) (Some millis) after
-  pub readings : Gains clock clock' (next_ticks (next_of result) ++ after)
+  pub paused : PauseTicks true now (next_of (as_call result)) (Some millis) after
+  pub readings : Gains clock clock' (next_ticks (next_of (as_call result)) ++ after)
   pub cause : (base : Base) (entry : Entry) (entries : List Entry) (calls : List Call) (ticks : List Tick)
       → PausesFor now millis entry.kind → NoneFail (entry ∷ entries)
-      → RequestEnds base (deed_of (entry ∷ entries) calls (after ++ tick.Taken now ∷ ticks)) result
-  pub reaches : KeepsReaching now after result
+      → RequestEnds base (deed_of (entry ∷ entries) calls (after ++ tick.Taken now ∷ ticks)) (as_call result)
+  pub reaches : KeepsReaching now after (as_call result)
 
-pub is_paused : (clock clock' : Option (List Tick)) (now millis : ℕ) (result : Result ℕ CallFault) (ticks : List Tick)
+pub is_paused : (clock clock' : Option (List Tick)) (now millis : ℕ) (result : Result ℕ FlushFault) (ticks : List Tick)
     → Gains clock clock' ticks → PauseEnds now millis ticks result → IsPaused clock clock' now millis result
 is_paused clock clock' now millis (Ok next) ticks gained ends = record {
   after = tick.Paused millis ∷ [];
@@ -39,20 +40,15 @@ is_paused clock clock' now millis (Err fault) ticks gained ends = record {
   readings = subst (Gains clock clock') ends.3 gained;
   cause = λ base entry entries calls earlier pauses none.
       let behind = tick.Taken ends.0 ∷ tick.Paused millis ∷ tick.Taken now ∷ earlier in
-      subst (λ (f : CallFault). HasCause base f (deed_of (entry ∷ entries) calls behind)) (sym ends.1)
+      subst (λ (f : FlushFault). HasCause base (call_fault f) (deed_of (entry ∷ entries) calls behind)) (sym ends.1)
       ((pauses, (earlier, refl, ends.2)), none);
   reaches = λ earlier reached.
       let behind = tick.Taken ends.0 ∷ tick.Paused millis ∷ tick.Taken now ∷ earlier in
-      subst (λ (f : CallFault). ReachesBut f behind) (sym ends.1) reached;
+      subst (λ (f : FlushFault). ReachesBut (call_fault f) behind) (sym ends.1) reached;
 }
 
--- a pause doesn't fail as a read
-pub pause_reads_nothing : {clock clock' : Option (List Tick)} {latest latest' now millis : ℕ} {fault : CallFault}
-    → Pauses clock clock' latest latest' now millis (Err fault) → IsOfNoRead fault
-pause_reads_nothing pauses = subst IsOfNoRead (sym pauses.ends.1) tt
-
 -- the same of what a pause did
-pub pause_is : {clock clock' : Option (List Tick)} {latest latest' now millis : ℕ} {result : Result ℕ CallFault}
+pub pause_is : {clock clock' : Option (List Tick)} {latest latest' now millis : ℕ} {result : Result ℕ FlushFault}
     → Pauses clock clock' latest latest' now millis result → IsPaused clock clock' now millis result
 pause_is {clock} {clock'} {now = now} {millis = millis} {result = result} paused =
     is_paused clock clock' now millis result paused.ticks paused.gained paused.ends

@@ -34,12 +34,13 @@ use Rattle.sb_core.specs.Represents.{open_get, geometry_of, settings_of}
 use Rattle.sb_core.specs.Steps.{HasGet, judged, is_taken, get_end_entry}
 use Rattle.sb_crew.specs.Scenes.{disk_at, scene_at, deed_of}
 use Rattle.sb_crew.specs.declared.calls.CallFault.{CallFault}
-use Rattle.sb_crew.specs.declared.calls.CallFault.TheVariants.{StoreFault, Memory, StaleRead, ClockStalled}
+use Rattle.sb_crew.specs.declared.calls.FlushFault.{FlushFault}
+use Rattle.sb_crew.specs.declared.calls.CallFault.TheVariants.{StaleRead}
 use Rattle.sb_crew.specs.Names.{Naming, name_of}
-use Rattle.sb_crew.specs.Answers.{shown_for, fault_for, is_late}
+use Rattle.sb_crew.specs.Answers.{shown_for, fault_for, call_fault, as_call, is_late}
 use Rattle.sb_crew.specs.Outcomes as outcome
 use Rattle.sb_crew.specs.Bases.{Base, base_of}
-use Rattle.sb_crew.specs.Outcomes.{IsLongExpected, HasCause, PausesReach, ReachesBut, IsOfNoRead}
+use Rattle.sb_crew.specs.Outcomes.{IsLongExpected, HasCause, PausesReach, ReachesBut}
 use Rattle.sb_crew.specs.Joins.{gains_nothing}
 use Rattle.sb_crew.specs.Runs.{next_ticks, Event}
 use Rattle.sb_crew.specs.Turns.{next_of, RequestEnds, KeepsReaching, get_begun, get_ended, FetchDoes, Pauses, put_sent}
@@ -174,7 +175,7 @@ failure_agrees limit begun block_size (Some expect) verify differs = differs
 
 -- a fault of the link is the cause of a call that failed by it
 pub fails_by : (base : Base) (fault : LinkFault) (ended : CallFault) (entry : Entry) (entries : List Entry)
-    (asked : Call) (calls : List Call) (ticks : List Tick) → ended ≡ fault_for fault → outcome.IsFailure entry.kind
+    (asked : Call) (calls : List Call) (ticks : List Tick) → ended ≡ call_fault (fault_for fault) → outcome.IsFailure entry.kind
     → outcome.fault_of asked ≡ Some fault → outcome.NoneFail entries
     → HasCause base ended (deed_of (entry ∷ entries) (asked ∷ calls) ticks)
 fails_by base (link.Failed status) ended entry entries asked calls ticks is failure cause none =
@@ -202,9 +203,8 @@ taken_none_fails block_size block expect verify (Ok got.Bytes) bytes taken is fa
 taken_none_fails block_size block expect verify (Ok got.Same) bytes taken is fails = fails
 taken_none_fails block_size block expect verify (Err fault) bytes taken is fails = failed_is_not_taken expect is
 
-
 -- a request of the link that failed leaves no pause that came short
-pub reaches_by : (fault : LinkFault) (ended : CallFault) (ticks : List Tick) → ended ≡ fault_for fault
+pub reaches_by : (fault : LinkFault) (ended : CallFault) (ticks : List Tick) → ended ≡ call_fault (fault_for fault)
     → PausesReach ticks → ReachesBut ended ticks
 reaches_by (link.Failed status) ended ticks is reached =
     subst (λ (f : CallFault). ReachesBut f ticks) (sym is) reached
@@ -265,9 +265,11 @@ module _ {names names' : Naming} {core core' : Core} {tape tape' : Option (List 
       → FetchDoes (scene_at names core tape log faults clock) (scene_at names' core' tape' log' faults' clock') job (Ok next)
   fetch_taken job answered bytes later reading outcome next opened called counted took event answer is readings =
       fetch_does job answered bytes later reading outcome (Ok next) None [] opened called counted took event
-      (taken_agrees (settings_of core).stale_limit job.begun job.expect _ (sym answer ∙ is)) refl readings
-      (taken_none_fails (geometry_of core).block_size job.block job.expect job.verify answered bytes (is_taken outcome)
-      (sym answer ∙ is), ((λ fails. fails), tt)) (λ earlier reached. reached)
+      (taken_agrees (settings_of core).stale_limit job.begun job.expect _ (sym answer ∙ is)) refl readings (
+        taken_none_fails (geometry_of core).block_size job.block job.expect job.verify answered bytes (is_taken outcome)
+            (sym answer ∙ is),
+        ((λ fails. fails), tt),
+      ) (λ earlier reached. reached)
 
   -- it failed
   pub fetch_failed : (job : GetJob) (cause : LinkFault) (fault : CallFault) (bytes : List ℕ) (later reading : ℕ)
@@ -276,7 +278,7 @@ module _ {names names' : Naming} {core core' : Core} {tape tape' : Option (List 
       → CountsFaults faults faults' (HasFailed {T = Got} (Err cause)) → Gains clock clock' (tick.Taken later ∷ [])
       → Event (disk_at names core tape) (disk_at names' core' tape') later
       (get_end_entry 1 reading job (shown_for (Err cause) bytes) outcome)
-      → fault ≡ fault_for cause
+      → fault ≡ call_fault (fault_for cause)
       → FetchDoes (scene_at names core tape log faults clock) (scene_at names' core' tape' log' faults' clock') job (Err fault)
   fetch_failed job cause fault bytes later reading outcome opened called counted took event is = record {
     got = Err cause;
@@ -358,7 +360,7 @@ module _ {names names' : Naming} {core core' : Core} {tape tape' : Option (List 
   -- its answer was stale, and it is asked for anew behind a pause
   pub fetch_paused : {between : Option (List Tick)} {latest latest' : ℕ} (job : GetJob)
       (answered : Result Got LinkFault) (bytes : List ℕ)
-      (later reading : ℕ) (outcome : GetDone) (expected shown : List ℕ) (result : Result ℕ CallFault)
+      (later reading : ℕ) (outcome : GetDone) (expected shown : List ℕ) (result : Result ℕ FlushFault)
       → HasGet core 1 job
       → Gains log log' (call.Get (name_of names job.block) job.verify (get_reply answered bytes) ∷ [])
       → CountsFaults faults faults' (HasFailed answered) → Gains clock between (tick.Taken later ∷ [])
@@ -367,7 +369,7 @@ module _ {names names' : Naming} {core core' : Core} {tape tape' : Option (List 
       → outcome ≡ done.Stale expected shown
       → is_late (settings_of core).stale_limit job.begun job.expect ≡ false
       → Pauses between clock' latest latest' later 100 result
-      → FetchDoes (scene_at names core tape log faults clock) (scene_at names' core' tape' log' faults' clock') job result
+      → FetchDoes (scene_at names core tape log faults clock) (scene_at names' core' tape' log' faults' clock') job (as_call result)
   fetch_paused job answered bytes later reading outcome expected shown result opened called counted took event answer
       is late
       pauses =
@@ -375,14 +377,16 @@ module _ {names names' : Naming} {core core' : Core} {tape tape' : Option (List 
       (answer_digest (geometry_of core).block_size job.verify (shown_for answered bytes)) expected shown
       (sym answer ∙ is) in
       let paused = pause_is pauses in
-      fetch_does job answered bytes later reading outcome result
+      fetch_does job answered bytes later reading outcome (as_call result)
       (Some 100) paused.after opened called counted took event
       (differs_in_time (settings_of core).stale_limit job.begun job.expect _ expected shown late other, refl)
       paused.paused paused.readings
       (paused.cause (base_of core) (get_ended job reading answered bytes (is_taken outcome)) (get_begun job ∷ [])
-      (call.Get (name_of names job.block) job.verify (get_reply answered bytes) ∷ []) [] (ap is_taken is, refl)
-      (digest_none_fails (geometry_of core).block_size job.block job.verify answered bytes shown (is_taken outcome)
-      other.digest_is, ((λ fails. fails), tt)))
+      (call.Get (name_of names job.block) job.verify (get_reply answered bytes) ∷ []) [] (ap is_taken is, refl) (
+        digest_none_fails (geometry_of core).block_size job.block job.verify answered bytes shown (is_taken outcome)
+            other.digest_is,
+        ((λ fails. fails), tt),
+      ))
       paused.reaches
 
 -- a put that failed says its fault, as a delete or as a put
@@ -390,19 +394,6 @@ pub put_fault : (zeros : Bool) (name : List ℕ) (meta : Option Meta) (content :
     → outcome.fault_of (if zeros then call.Delete name fault else call.Put name content meta fault) ≡ fault
 put_fault true name meta content fault = refl
 put_fault false name meta content fault = refl
-
--- a request of the link doesn't fail as a read
-pub request_reads_nothing : (fault : LinkFault) (ended : CallFault) → ended ≡ fault_for fault → IsOfNoRead ended
-request_reads_nothing (link.Failed status) ended is = subst IsOfNoRead (sym is) tt
-request_reads_nothing link.Memory ended is = subst IsOfNoRead (sym is) tt
-
--- neither does a PUT
-pub put_reads_nothing : (base : Base) (fault : CallFault) (entry : Entry) (calls : List Call) (ticks : List Tick)
-    → HasCause base fault (deed_of (entry ∷ []) calls ticks) → IsOfNoRead fault
-put_reads_nothing base (StoreFault status) entry calls ticks cause = tt
-put_reads_nothing base Memory entry calls ticks cause = tt
-put_reads_nothing base (StaleRead block expected shown begun) entry calls ticks cause = cause.0
-put_reads_nothing base (ClockStalled before asked after) entry calls ticks cause = tt
 
 -- what a PUT did
 module _ {names names' : Naming} {core core' : Core} {tape tape' : Option (List Entry)}
@@ -433,7 +424,7 @@ module _ {names names' : Naming} {core core' : Core} {tape tape' : Option (List 
     reaches = λ earlier reached. reached;
   }
 
-  pub store_failed : (block : ℕ) (content : List ℕ) (cause : LinkFault) (fault : CallFault) (later reading : ℕ)
+  pub store_failed : (block : ℕ) (content : List ℕ) (cause : LinkFault) (fault : FlushFault) (later reading : ℕ)
       → Gains log log' (put_sent names block content (Err cause) ∷ [])
       → CountsFaults faults faults' (HasFailed {T = Unit} (Err cause)) → Gains clock clock' (tick.Taken later ∷ [])
       → Event (disk_at names core tape) (disk_at names' core' tape') later (put_ended block reading (Err cause))
@@ -455,8 +446,8 @@ module _ {names names' : Naming} {core core' : Core} {tape tape' : Option (List 
       paused = refl;
       readings = gains_nothing clock';
     };
-    cause = fails_by (base_of core) cause fault (put_ended block reading (Err cause)) []
-        (put_sent names block content (Err cause)) [] (tick.Taken later ∷ []) is refl
+    cause = fails_by (base_of core) cause (call_fault fault) (put_ended block reading (Err cause)) []
+        (put_sent names block content (Err cause)) [] (tick.Taken later ∷ []) (ap call_fault is) refl
         (put_fault (is_zeros content) (name_of names block) (meta_of (Some names.meta) block) content (Some cause)) tt;
-    reaches = λ earlier reached. reaches_by cause fault (tick.Taken later ∷ earlier) is reached;
+    reaches = λ earlier reached. reaches_by cause (call_fault fault) (tick.Taken later ∷ earlier) (ap call_fault is) reached;
   }

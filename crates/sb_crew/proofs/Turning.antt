@@ -35,9 +35,10 @@ use Rattle.sb_core.specs.Progress.{SameBase}
 use Rattle.sb_crew.specs.Scenes.{deed_of, disk_at, scene_at, nothing, Deed}
 use Rattle.sb_crew.specs.Bases.{Base, base_of}
 use Rattle.sb_crew.specs.declared.calls.CallFault.{CallFault}
+use Rattle.sb_crew.specs.declared.calls.FlushFault.{FlushFault}
 use Rattle.sb_crew.specs.Counts.{is_failure, Counts, Asked}
 use Rattle.sb_crew.specs.Names.{Naming, name_of}
-use Rattle.sb_crew.specs.Answers.{shown_for}
+use Rattle.sb_crew.specs.Answers.{shown_for, call_fault, as_call}
 use Rattle.sb_crew.specs.Outcomes as outcome
 use Rattle.sb_crew.specs.Outcomes.{Outcome, outcomes_of, outcome_of, bytes_read, bytes_of, asked_of, blocks_asked}
 use Rattle.sb_crew.specs.Outcomes.{IsBlockOf, AsksOnly, IsFailure, NoneFail, HasCause, Meets, Stops, Does, FlushBegun}
@@ -158,12 +159,12 @@ plain_turn {Then} {names} {names'} {core} {core'} {tape} {tape'} {now = now} nex
 
 -- the turn of a wait, with its pause
 wait_turn : {Then : List Entry → Type 0} {names1 names2 : Naming} {b c : Core} {tape1 tape2 : Option (List Entry)}
-    {clock1 clock2 : Option (List Tick)} {latest latest' now : ℕ} {entry : Entry} {result : Result ℕ CallFault}
+    {clock1 clock2 : Option (List Tick)} {latest latest' now : ℕ} {entry : Entry} {result : Result ℕ FlushFault}
     (reading : ℕ) (why : Why) → entry ≡ event reading (kind.Waited why)
     → EventWhere Then (disk_at names1 b tape1) (disk_at names2 c tape2) now entry
     → (waits : Waits clock1 clock2 latest latest' now why result)
     → TurnWhere Then (disk_at names1 b tape1) (disk_at names2 c tape2) clock1 clock2 now (event reading (kind.Waited why))
-    (next_of result) (pause_is waits.paused).after
+    (next_of (as_call result)) (pause_is waits.paused).after
 wait_turn {Then} {names1} {names2} {b} {c} {tape1} {tape2} {now = now} reading why is did waits = record {
   event = subst (λ (e : Entry). EventWhere Then (disk_at names1 b tape1) (disk_at names2 c tape2) now e) is did;
   pause = Some waits.millis;
@@ -292,12 +293,12 @@ module _ {Then : List Entry → Type 0} {met : List Outcome} {names names1 : Nam
   pub wait_fails : {names2 : Naming} {c : Core} {tape2 : Option (List Entry)} {clock2 : Option (List Tick)}
       {latest latest' : ℕ} {entry : Entry}
       → SoFar Then met (scene_at names a tape log faults clock) (scene_at names1 b tape1 log1 faults1 clock1) parts now
-      → (want : List Outcome) (reading : ℕ) (why : Why) (fault : CallFault) → 0 < length want
+      → (want : List Outcome) (reading : ℕ) (why : Why) (fault : FlushFault) → 0 < length want
       → entry ≡ event reading (kind.Waited why)
       → EventWhere Then (disk_at names1 b tape1) (disk_at names2 c tape2) now entry
       → Waits clock1 clock2 latest latest' now why (Err fault)
       → Does (Did (scene_at names a tape log faults clock) (scene_at names2 c tape2 log1 faults1 clock2)) parts
-      (λ (deed : Deed). Stops (base_of a) (want ++ met) deed fault)
+      (λ (deed : Deed). Stops (base_of a) (want ++ met) deed (call_fault fault))
   wait_fails before want reading why fault some is did waits = record {
     deed = record { entries = event reading (kind.Waited why) ∷ before.deed.entries; calls = before.deed.calls; ticks = (pause_is waits.paused).after ++ tick.Taken now ∷ before.deed.ticks };
     done = one_turn before (wait_turn reading why is did waits) refl;
@@ -398,12 +399,12 @@ module _ {Then : List Entry → Type 0} {met : List Outcome} {names names1 : Nam
   -- the entries, the call and the ticks of a PUT
   put_does : {names2 names3 : Naming} {c d : Core} {tape2 tape3 : Option (List Entry)}
       {log3 : Option (List Call)} {faults3 : ℕ} {clock3 : Option (List Tick)} {entry : Entry}
-      {ended : Result ℕ CallFault} (reading block : ℕ) (content : List ℕ)
+      {ended : Result ℕ FlushFault} (reading block : ℕ) (content : List ℕ)
       (before : SoFar Then met (scene_at names a tape log faults clock) (scene_at names1 b tape1 log1 faults1 clock1) parts now)
       → entry ≡ event reading (kind.PutBegin block content)
       → EventWhere Then (disk_at names1 b tape1) (disk_at names2 c tape2) now entry
       → (stored : StoreDoes (scene_at names2 c tape2 log1 faults1 clock1) (scene_at names3 d tape3 log3 faults3 clock3) block content ended)
-      → DidWhere any_past (scene_at names a tape log faults clock) (scene_at names3 d tape3 log3 faults3 clock3) (deed_of (put_ended block stored.reading stored.sent ∷ event reading (kind.PutBegin block content) ∷ before.deed.entries) (put_sent names2 block content stored.sent ∷ before.deed.calls) (stored.after ++ tick.Taken stored.later ∷ tick.Taken now ∷ before.deed.ticks)) (next_of ended)
+      → DidWhere any_past (scene_at names a tape log faults clock) (scene_at names3 d tape3 log3 faults3 clock3) (deed_of (put_ended block stored.reading stored.sent ∷ event reading (kind.PutBegin block content) ∷ before.deed.entries) (put_sent names2 block content stored.sent ∷ before.deed.calls) (stored.after ++ tick.Taken stored.later ∷ tick.Taken now ∷ before.deed.ticks)) (next_of (as_call ended))
   put_does {names2} {faults3 = faults3} reading block content before is did stored =
       two_turns before (plain_turn (Some stored.later) is did (λ past. refl) stored.took) stored.turn
       (record {
@@ -439,12 +440,12 @@ module _ {Then : List Entry → Type 0} {met : List Outcome} {names names1 : Nam
   pub put_fails : {names2 names3 : Naming} {c d : Core} {tape2 tape3 : Option (List Entry)}
       {log3 : Option (List Call)} {faults3 : ℕ} {clock3 : Option (List Tick)} {entry : Entry}
       → SoFar Then met (scene_at names a tape log faults clock) (scene_at names1 b tape1 log1 faults1 clock1) parts now
-      → (want : List Outcome) (reading block : ℕ) (content : List ℕ) (fault : CallFault) → 0 < length want
+      → (want : List Outcome) (reading block : ℕ) (content : List ℕ) (fault : FlushFault) → 0 < length want
       → entry ≡ event reading (kind.PutBegin block content)
       → EventWhere Then (disk_at names1 b tape1) (disk_at names2 c tape2) now entry
       → StoreDoes (scene_at names2 c tape2 log1 faults1 clock1) (scene_at names3 d tape3 log3 faults3 clock3) block content (Err fault)
       → Does (Did (scene_at names a tape log faults clock) (scene_at names3 d tape3 log3 faults3 clock3)) parts
-      (λ (deed : Deed). Stops (base_of a) (want ++ met) deed fault)
+      (λ (deed : Deed). Stops (base_of a) (want ++ met) deed (call_fault fault))
   put_fails {names2} before want reading block content fault some is did stored =
       let ended = put_ended block stored.reading stored.sent in
       let begun = event reading (kind.PutBegin block content) in
@@ -457,7 +458,7 @@ module _ {Then : List Entry → Type 0} {met : List Outcome} {names names1 : Nam
           some = some;
           met = ap (λ (os : List Outcome). want ++ os) before.met_so;
           reached = stored.reaches (tick.Taken now ∷ before.deed.ticks) before.reached;
-          cause = fails_so before did.base fault (begun ∷ before.deed.entries) (ended ∷ []) asked stored.later
+          cause = fails_so before did.base (call_fault fault) (begun ∷ before.deed.entries) (ended ∷ []) asked stored.later
               stored.after ((λ fails. fails), before.none_fail) stored.cause;
         };
         asks = record { asked = before.asks.asked };

@@ -1,12 +1,11 @@
 -- What the entries of a call of the disk came to. Entries, calls of the link and ticks are newest first.
 use Rattle.std.specs.Prelude.{ℕ, ◌≡◌, ◌≢◌, ◌+◌, ◌<◌, ◌≤◌, ◌⊎◌, length, List, [], ◌∷◌, ◌++◌, Option, Some, None}
-use Rattle.std.specs.Prelude.{Result, Ok, Err, IfErr, false}
+use Rattle.std.specs.Prelude.{Result, Ok, Err, false}
 use Rattle.std.specs.List.{AllByRecursion}
 use Rattle.sb_base.specs.declared.part.Part.{Part}
 use Rattle.sb_base.specs.declared.entry.Entry.{Entry}
 use Rattle.sb_base.specs.declared.entry.EntryKind.{EntryKind}
 use Rattle.sb_base.specs.declared.entry.EntryKind.TheVariants as kind
-use Rattle.sb_base.specs.declared.entry.Shown.{Shown}
 use Rattle.sb_base.specs.declared.entry.Shown.TheVariants as shown
 use Rattle.sb_base.specs.declared.line.Expect.{Expect}
 use Rattle.sb_world.specs.declared.clock.Tick.{Tick}
@@ -20,6 +19,8 @@ use Rattle.sb_history.specs.ClockTrace.{wait_pause}
 use Rattle.sb_history.specs.Window.{answer_digest}
 use Rattle.sb_crew.specs.Scenes.{Deed}
 use Rattle.sb_crew.specs.Bases.{Base}
+use Rattle.sb_crew.specs.Answers.{as_call}
+use Rattle.sb_crew.specs.declared.calls.FlushFault.{FlushFault}
 use Rattle.sb_crew.specs.declared.calls.CallFault.{CallFault}
 use Rattle.sb_crew.specs.declared.calls.CallFault.TheVariants.{StoreFault, Memory, StaleRead, ClockStalled}
 
@@ -217,14 +218,9 @@ WriteDoes base did part bytes result = Does did (part ∷ []) (GoalEnds base (Wr
 abbrev pub flush_of : ℕ → List Outcome
 flush_of mark = FlushEnded mark ∷ FlushBegun mark ∷ []
 
--- the fault of a call that reads nothing: none is stale
-abbrev pub IsOfNoRead : CallFault → Type 0
-IsOfNoRead (StaleRead block expected shown begun) = ⊥
-IsOfNoRead other = Unit {0}
-
 -- a flush began and ended with one mark, or it did not and has a cause
-abbrev pub FlushEnds : Base → Result Unit CallFault → Deed → Type 0
-FlushEnds base result deed = (mark : ℕ) × GoalEnds base (flush_of mark) result deed × IfErr result IsOfNoRead
+abbrev pub FlushEnds : Base → Result Unit FlushFault → Deed → Type 0
+FlushEnds base result deed = (mark : ℕ) × GoalEnds base (flush_of mark) (as_call result) deed
 
-abbrev pub FlushDoes : Base → (Deed → Type 0) → Result Unit CallFault → Type 0
+abbrev pub FlushDoes : Base → (Deed → Type 0) → Result Unit FlushFault → Type 0
 FlushDoes base did result = Does did [] (FlushEnds base result)

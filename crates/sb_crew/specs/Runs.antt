@@ -6,16 +6,14 @@ use Rattle.sb_base.specs.declared.entry.Entry.{Entry}
 use Rattle.sb_world.specs.Told.{Gains}
 use Rattle.sb_world.specs.declared.clock.Tick.{Tick}
 use Rattle.sb_world.specs.declared.clock.Tick.TheVariants as tick
-use Rattle.sb_world.specs.declared.link.Call.{Call}
 use Rattle.sb_world.specs.declared.link.Meta.{Meta}
 use Rattle.sb_history.specs.Flushes.{flush_place}
 use Rattle.sb_history.specs.Passes.{IsOfPass}
 use Rattle.sb_history.specs.Requests.{RequestLog}
 use Rattle.sb_history.specs.ClockTrace.{Caller, ClockTrace, PausesAfter, PauseTicks}
-use Rattle.sb_core.specs.declared.machine.Core.{Core}
 use Rattle.sb_core.specs.Represents.{Represents, geometry_of, settings_of, reading_of}
 use Rattle.sb_core.specs.Progress.{SameBase}
-use Rattle.sb_crew.specs.Names.{Naming, name_of}
+use Rattle.sb_crew.specs.Names.{name_of}
 use Rattle.sb_crew.specs.Scenes.{DiskScene, Scene, Deed}
 use Rattle.sb_crew.specs.Counts.{Asked}
 

@@ -21,9 +21,10 @@ use Rattle.sb_core.specs.Progress.{IsCloser, HoldsNothing}
 use Rattle.sb_crew.specs.Scenes.{Scene, Deed, deed_of}
 use Rattle.sb_crew.specs.Bases.{Base, base_of}
 use Rattle.sb_crew.specs.Names.{Naming, name_of}
-use Rattle.sb_crew.specs.Answers.{shown_for}
+use Rattle.sb_crew.specs.Answers.{shown_for, as_call}
 use Rattle.sb_crew.specs.declared.calls.CallFault.{CallFault}
-use Rattle.sb_crew.specs.declared.calls.CallFault.TheVariants.{ClockStalled}
+use Rattle.sb_crew.specs.declared.calls.FlushFault.{FlushFault}
+use Rattle.sb_crew.specs.declared.calls.FlushFault.TheVariants.{ClockStalled}
 use Rattle.sb_crew.specs.Outcomes.{Outcome, outcomes_of, bytes_read, AsksOnly, HasCause, NoneFail, PausesReach, ReachesBut}
 use Rattle.sb_crew.specs.Runs.{any_past, TurnWhere, DidWhere}
 
@@ -68,7 +69,7 @@ pub record IsLatest (latest now : ℕ) : Type 0 where
 
 -- a pause, and the reading taken behind it: the next one where the pause has reached it, and else the clock stands
 -- still
-abbrev pub PauseEnds : ℕ → ℕ → List Tick → Result ℕ CallFault → Type 0
+abbrev pub PauseEnds : ℕ → ℕ → List Tick → Result ℕ FlushFault → Type 0
 PauseEnds now millis ticks (Ok next) = (ticks ≡ tick.Taken next ∷ tick.Paused millis ∷ []) × (now + millis ≤ next)
 PauseEnds now millis ticks (Err fault) =
     (short : ℕ) × (fault ≡ ClockStalled now millis short) × (short < now + millis)
@@ -76,7 +77,7 @@ PauseEnds now millis ticks (Err fault) =
 
 -- what a pause did to the clock
 pub record Pauses (clock clock' : Option (List Tick)) (latest latest' now millis : ℕ)
-    (result : Result ℕ CallFault) : Type 0 where
+    (result : Result ℕ FlushFault) : Type 0 where
   pub ticks : List Tick
   pub gained : Gains clock clock' ticks
   pub ends : PauseEnds now millis ticks result
@@ -85,7 +86,7 @@ pub record Pauses (clock clock' : Option (List Tick)) (latest latest' now millis
 
 -- a wait paused up to the reading that it waits for
 pub record Waits (clock clock' : Option (List Tick)) (latest latest' now : ℕ) (why : Why)
-    (result : Result ℕ CallFault) : Type 0 where
+    (result : Result ℕ FlushFault) : Type 0 where
   pub millis : ℕ
   pub some : 0 < millis
   pub pause_is : wait_pause why now ≡ Some millis
@@ -134,7 +135,7 @@ put_ended block reading sent = record { pass = 1; reading = reading; kind = kind
 
 -- what a PUT did: one call of the link, and its end at a reading that was taken for it
 pub record StoreDoes (old new : Scene) (block : ℕ) (content : List ℕ)
-    (result : Result ℕ CallFault) : Type 0 where
+    (result : Result ℕ FlushFault) : Type 0 where
   pub sent : Result Unit LinkFault
   pub called : Gains old.log new.log (put_sent old.disk.names block content sent ∷ [])
   pub counted : CountsFaults old.faults new.faults (HasFailed sent)
@@ -144,7 +145,7 @@ pub record StoreDoes (old new : Scene) (block : ℕ) (content : List ℕ)
   pub reading : ℕ
   pub after : List Tick
   pub turn : TurnWhere any_past old.disk new.disk between new.ticks later
-      (put_ended block reading sent) (next_of result) after
+      (put_ended block reading sent) (next_of (as_call result)) after
   pub cause : RequestEnds (base_of old.disk.core) (deed_of (put_ended block reading sent ∷ [])
-      (put_sent old.disk.names block content sent ∷ []) (after ++ tick.Taken later ∷ [])) result
-  pub reaches : KeepsReaching later after result
+      (put_sent old.disk.names block content sent ∷ []) (after ++ tick.Taken later ∷ [])) (as_call result)
+  pub reaches : KeepsReaching later after (as_call result)

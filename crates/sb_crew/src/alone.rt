@@ -4,7 +4,7 @@ ghost use Rattle.std.specs.Prelude.{◌≡◌, ◌≤◌, ◌∷◌, [], max, le
 ghost use Rattle.sb_base.specs.Lines.{entry_kind_of};
 ghost use Rattle.sb_names.specs.declared.names.TheConstants.{MAX_PREFIX};
 
-use crate::calls::{CallFault, Calls};
+use crate::calls::{CallFault, Calls, FlushFault};
 use crate::desk::Desk;
 use crate::names::Names;
 use sb_base::{Geometry, Kind, Line, Part};
@@ -110,7 +110,7 @@ impl<T: Tape, L: Link, C: Clock> Calls<Desk<L, C>> for Alone<T> {
         self.write_part(desk, part, bytes)
     }
 
-    fn flush(&mut self, desk: &mut Desk<L, C>) -> Result<(), CallFault> {
+    fn flush(&mut self, desk: &mut Desk<L, C>) -> Result<(), FlushFault> {
         self.flush_writes(desk)
     }
 }

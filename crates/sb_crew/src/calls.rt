@@ -33,6 +33,39 @@ pub enum CallFault {
     },
 }
 
+/// Why a call failed that reads nothing.
+#[derive(Drop, Clone, Copy, PartialEq, Eq, Debug)]
+pub enum FlushFault {
+    /// As `CallFault::StoreFault`.
+    StoreFault { status: u16 },
+    /// As `CallFault::Memory`.
+    Memory,
+    /// As `CallFault::ClockStalled`.
+    ClockStalled { before: u64, asked: u64, after: u64 },
+}
+
+impl From<FlushFault> for CallFault {
+    ghost use Rattle.sb_crew.specs.Answers.{call_fault};
+
+    ghost from_gives = { λ fault call. call ≡ call_fault fault };
+
+    fn from(fault: FlushFault) -> CallFault {
+        match fault {
+            FlushFault::StoreFault { status } => CallFault::StoreFault { status },
+            FlushFault::Memory => CallFault::Memory,
+            FlushFault::ClockStalled {
+                before,
+                asked,
+                after,
+            } => CallFault::ClockStalled {
+                before,
+                asked,
+                after,
+            },
+        }
+    }
+}
+
 /// The calls of a disk that are made with a desk, which has what one thread works with.
 pub trait Calls<K> {
     /// Its size and settings, which no call changes.
@@ -76,7 +109,7 @@ pub trait Calls<K> {
         ensures base { base self.new ≡ base self.old };
 
     /// Has everything written back that was written before.
-    fn flush(&mut self, desk: &mut K) -> Result<(), CallFault>
+    fn flush(&mut self, desk: &mut K) -> Result<(), FlushFault>
         requires { ready self.old desk.old }
         ensures ready { ready self.new desk.new }
         ensures did { FlushDoes (base self.old) (did self.old desk.old self.new desk.new) result }

@@ -5,7 +5,7 @@ ghost use Rattle.sb_base.specs.Lines.{entry_kind_of};
 ghost use Rattle.sb_core.specs.Steps.{flush_kind};
 
 use crate::alone::{Alone, PASS};
-use crate::calls::CallFault;
+use crate::calls::FlushFault;
 use crate::desk::Desk;
 use crate::pauses::wait;
 use sb_base::Kind;
@@ -67,7 +67,7 @@ impl<T: Tape> Alone<T> {
     pub(crate) fn flush_writes<L: Link, C: Clock>(
         &mut self,
         desk: &mut Desk<L, C>,
-    ) -> Result<(), CallFault>
+    ) -> Result<(), FlushFault>
         requires ready { IsReady self.old.core self.old.reading (vec_len desk.old.room) }
         ensures did { let scene = scene_of T.Tape L.Link C.Clock in
             FlushDoes (base_of self.old.core) (Did (scene self.old desk.old) (scene self.new desk.new)) result }

@@ -12,6 +12,6 @@ mod requests;
 mod writes;
 
 pub use alone::Alone;
-pub use calls::{CallFault, Calls};
+pub use calls::{CallFault, Calls, FlushFault};
 pub use desk::{Desk, DeskRefused};
 pub use names::Names;

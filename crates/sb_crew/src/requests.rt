@@ -6,7 +6,7 @@ ghost use Rattle.sb_core.specs.Steps.{is_taken};
 ghost use Rattle.sb_crew.specs.Answers.{shown_for, fault_for, is_late};
 
 use crate::alone::{Alone, PASS};
-use crate::calls::CallFault;
+use crate::calls::{CallFault, FlushFault};
 use crate::desk::Desk;
 use crate::pauses::pause;
 use sb_base::{Answer, Expect, Kind};
@@ -37,12 +37,12 @@ fn is_taken(done: GetDone) -> bool
 }
 
 /// The fault of a call whose request failed so.
-fn call_fault(fault: LinkFault) -> CallFault
+fn fault_for(fault: LinkFault) -> FlushFault
     ensures { result ≡ fault_for fault }
 {
     match fault {
-        LinkFault::Failed { status } => CallFault::StoreFault { status },
-        LinkFault::Memory => CallFault::Memory,
+        LinkFault::Failed { status } => FlushFault::StoreFault { status },
+        LinkFault::Memory => FlushFault::Memory,
     }
 }
 
@@ -104,7 +104,7 @@ impl<T: Tape> Alone<T> {
             GetDone::Taken => Ok(clock.now()),
             GetDone::Failed => match got {
                 Ok(_) => unreachable!(),
-                Err(fault) => Err(call_fault(fault)),
+                Err(fault) => Err(CallFault::from(fault_for(fault))),
             },
             GetDone::Stale { expected, shown } => {
                 if is_late(expect, begun, self.core.settings().stale_limit) {
@@ -115,7 +115,10 @@ impl<T: Tape> Alone<T> {
                         begun,
                     })
                 } else {
-                    pause(clock, now, STALE_PAUSE)
+                    match pause(clock, now, STALE_PAUSE) {
+                        Ok(next) => Ok(next),
+                        Err(fault) => Err(CallFault::from(fault)),
+                    }
                 }
             }
         }
@@ -165,7 +168,7 @@ impl<T: Tape> Alone<T> {
         &mut self,
         desk: &mut Desk<L, C>,
         job: PutJob,
-    ) -> Result<u64, CallFault>
+    ) -> Result<u64, FlushFault>
         requires job { HasPut self.old.core 1 job }
         requires zeros { job.zeros ≡ is_zeros desk.old.room.items }
         requires current { self.old.reading ≡ reading_of self.old.core }
@@ -185,7 +188,7 @@ impl<T: Tape> Alone<T> {
         self.end_store(now, room, job, sent);
         match sent {
             Ok(()) => Ok(clock.now()),
-            Err(fault) => Err(call_fault(fault)),
+            Err(fault) => Err(fault_for(fault)),
         }
     }
 

@@ -1,14 +1,11 @@
-use Rattle.std.proofs.Common.{◌∙◌, List, [], ◌∷◌, refl, sym, ap, arith}
+use Rattle.std.proofs.Common.{◌∙◌, [], ◌∷◌, refl, sym, ap, arith}
 use Rattle.std.proofs.lemmas.Result.{err_from_is_err_and}
 use Rattle.sb_base.specs.declared.geometry.Geometry.{Geometry}
 use Rattle.sb_base.specs.declared.entry.EntryKind.TheVariants as kind
 use Rattle.sb_core.specs.Steps.{flush_step_entry}
 use Rattle.sb_core.specs.Progress.{is_idle}
-use Rattle.sb_crew.specs.Bases.{base_of}
-use Rattle.sb_crew.specs.Outcomes.{Outcome, FlushEnded}
+use Rattle.sb_crew.specs.Outcomes.{FlushEnded}
 use Rattle.sb_crew.proofs.Asking.{ahead}
-use Rattle.sb_crew.proofs.Pausing.{pause_reads_nothing}
-use Rattle.sb_crew.proofs.Requesting.{put_reads_nothing}
 use Rattle.sb_crew.proofs.Flushing.{flush_stops}
 use Rattle.sb_crew.proofs.Rooms.{slice_back}
 use Rattle.sb_crew.proofs.Turning.{begun_lasts, begins_flush, after_wait, after_put, ends_with, wait_fails, put_fails}
@@ -67,7 +64,7 @@ returns-in-Done-clause-did g c =
     record {
       deed = ended.deed;
       done = ended.done;
-      ends = (mark, ended.ends.0, tt);
+      ends = (mark, ended.ends.0);
       asks = ended.asks;
     }
 
@@ -79,7 +76,7 @@ returns-in_err-now-in-Wait-clause-did g c =
     (ap (flush_step_entry 1 c.ask_flush.new.self.reading mark c.ask_flush.new.room) c.in-Wait.is)
     c.ask_flush.ensures.event c.in_err-now-in-Wait.ensures in
     let failed = err_from_is_err_and c.from_residual.result c.from_residual.ensures.1 in
-    rw (failed.1, failed.2) (flush_stops mark ended (pause_reads_nothing c.in_err-now-in-Wait.ensures.paused))
+    rw (failed.1, failed.2) (flush_stops _ mark ended)
 
 pub returns-in_err-now-in-Put-clause-did : goal.returns-in_err-now-in-Put-clause-did
 returns-in_err-now-in-Put-clause-did g c =
@@ -90,4 +87,4 @@ returns-in_err-now-in-Put-clause-did g c =
     c.ask_flush.ensures.event (rw (slice_back c.ask_flush.new.room _ c.turns.desk.room.len (c.ask_flush.auto.room ∙ c.as_mut_slice.ensures.len)) at c.in_err-now-in-Put.ensures.did) in
     let failed = err_from_is_err_and c.from_residual-in_err-now-in-Put.result
     c.from_residual-in_err-now-in-Put.ensures.1 in
-    rw (failed.1, failed.2) (flush_stops mark ended (put_reads_nothing (base_of c.ask_flush.new.self.core) c.in_err-now-in-Put.field-0.0 _ _ _ c.in_err-now-in-Put.ensures.did.cause))
+    rw (failed.1, failed.2) (flush_stops _ mark ended)

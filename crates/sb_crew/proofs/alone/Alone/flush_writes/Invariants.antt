@@ -1,4 +1,4 @@
-use Rattle.std.proofs.Common.{◌+◌, ◌*◌, ◌-◌, ◌^◌, [], ◌∷◌, length, vec_len}
+use Rattle.std.proofs.Common.{◌+◌, ◌*◌, ◌-◌, ◌^◌, [], ◌∷◌, vec_len}
 use Rattle.sb_core.specs.Progress.{steps_left}
 use Rattle.sb_crew.specs.Disks.{scene_of}
 use Rattle.sb_crew.specs.Outcomes.{FlushBegun}

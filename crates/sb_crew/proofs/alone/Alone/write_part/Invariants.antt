@@ -1,4 +1,4 @@
-use Rattle.std.proofs.Common.{◌+◌, ◌*◌, ◌-◌, ◌^◌, [], ◌∷◌, length, vec_len}
+use Rattle.std.proofs.Common.{◌+◌, ◌*◌, ◌-◌, ◌^◌, [], ◌∷◌, vec_len}
 use Rattle.sb_base.specs.Ranges.{IsPart}
 use Rattle.sb_core.specs.Represents.{geometry_of}
 use Rattle.sb_core.specs.Progress.{steps_left}
