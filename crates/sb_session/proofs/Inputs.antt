@@ -4,9 +4,6 @@ use Rattle.std.proofs.Common.{append_assoc, append-nil, ap, sym, subst, refl, ar
 use Rattle.std.specs.Int.{w32, to_be_bytes}
 use Rattle.std.specs.List.{AllByRecursion}
 use Rattle.std.proofs.lemmas.List.{length-append}
-use Rattle.sb_base.specs.declared.entry.Entry.{Entry}
-use Rattle.sb_world.specs.declared.clock.Tick.{Tick}
-use Rattle.sb_world.specs.declared.link.Call.{Call}
 use Rattle.sb_nbd.specs.declared.wanted.Wanted.{Wanted}
 use Rattle.sb_nbd.specs.Numbers.{request_magic}
 use Rattle.sb_nbd.specs.declared.end.NbdEnd.{NbdEnd}
@@ -17,6 +14,8 @@ use Rattle.sb_nbd.proofs.OneForm.{one_request, split_same, same_4, regrouped, sa
 use Rattle.sb_nbd.proofs.RequestParts.{length-magic_bytes}
 use Rattle.sb_nbd.proofs.Cuts.{long, no_cut}
 use Rattle.sb_crew.specs.Bases.{Base}
+use Rattle.sb_crew.specs.Scenes.{Deed}
+use Rattle.sb_session.specs.Streams.{Streams}
 use Rattle.sb_session.specs.declared.end.SessionEnd.{SessionEnd}
 use Rattle.sb_session.specs.declared.end.SessionEnd.TheVariants.{Disconnected, Ended, Refused, ReadFault, WriteFault}
 use Rattle.sb_session.specs.declared.end.SessionEnd.TheVariants.{Spent}
@@ -201,18 +200,17 @@ ends_input now tail rest WriteFault told stops = tt
 ends_input now tail rest Spent told stops = tt
 
 -- the requests that a session answered are all there are, up to what ended it
-pub all_answered : (base : Base) (before now ha hb : Option (List ℕ))
-    (did : List Entry → List Call → List Tick → Type 0) (end : SessionEnd) (n : ℕ) (rest : List ℕ) → now ≡ Some rest
-    → (s : Stopped base before now ha hb did end n)
-    → (bytes : List ℕ) × (before ≡ Some bytes) × IsInput bytes (requests_of s.transcript) end
-all_answered base before now ha hb did end n rest told s = (
+pub all_answered : (base : Base) (before after : Streams) (did : Deed → Type 0) (end : SessionEnd) (n : ℕ)
+    (rest : List ℕ) → after.left ≡ Some rest → (s : Stopped base before after did end n)
+    → (bytes : List ℕ) × (before.left ≡ Some bytes) × IsInput bytes (requests_of s.transcript) end
+all_answered base before after did end n rest told s = (
   _,
-  s.taken.told rest told,
+  s.moved.taken.told rest told,
   record {
     tail = s.tail ++ rest;
     whole = append_assoc (asking_bytes s.transcript) s.tail rest
         ∙ ap (λ bytes. bytes ++ (s.tail ++ rest)) (asking_bytes-in_order s.transcript);
     going_on = transcript_goes_on base s.transcript s.answered;
-    ends = ends_input now s.tail rest end told s.stops;
+    ends = ends_input after.left s.tail rest end told s.stops;
   },
 )

@@ -1,10 +1,7 @@
 -- What one request comes to.
 use Rattle.std.proofs.Common.{ℕ, ◌≡◌, ◌≢◌, List, [], ◌∷◌, ◌++◌, Option, Err, true, false, append-nil, sym, subst, refl}
 use Rattle.std.proofs.Common.{arith}
-use Rattle.sb_base.specs.declared.entry.Entry.{Entry}
 use Rattle.sb_world.specs.Streams.{Takes, Holds, WriteHolds}
-use Rattle.sb_world.specs.declared.clock.Tick.{Tick}
-use Rattle.sb_world.specs.declared.link.Call.{Call}
 use Rattle.sb_nbd.specs.declared.end.NbdEnd.{NbdEnd}
 use Rattle.sb_nbd.specs.declared.end.NbdEnd.TheVariants as nbd
 use Rattle.sb_nbd.specs.Requests.{Request, IsRequest, request_bytes}
@@ -12,6 +9,9 @@ use Rattle.sb_nbd.specs.RequestReading.{StopsRequest}
 use Rattle.sb_nbd.specs.Replies.{reply_bytes}
 use Rattle.sb_world.proofs.Streaming.{holds_nothing}
 use Rattle.sb_crew.specs.Bases.{Base}
+use Rattle.sb_crew.specs.Scenes.{Deed, nothing, followed}
+use Rattle.sb_session.specs.Streams.{Streams, Moves, streams_at}
+use Rattle.sb_session.proofs.Joins.{followed-nothing}
 use Rattle.sb_session.specs.declared.end.SessionEnd.{SessionEnd}
 use Rattle.sb_session.specs.declared.end.SessionEnd.TheVariants.{Disconnected, WriteFault, Spent}
 use Rattle.sb_session.specs.Goals.{is_disc}
@@ -40,9 +40,9 @@ end_unspent nbd.ReadFault e = cc
 end_unspent nbd.WriteFault e = cc
 
 -- no request, and bytes that end the session
-stops_at_once : (base : Base) (a b h : Option (List ℕ)) (did : List Entry → List Call → List Tick → Type 0)
-    (tail : List ℕ) (end : SessionEnd)
-    → did [] [] [] → Takes a b tail → StopsBy b tail end → end ≢ Spent → TurnEnds base a b h h did (Err end)
+stops_at_once : (base : Base) (a b h : Option (List ℕ)) (did : Deed → Type 0) (tail : List ℕ) (end : SessionEnd)
+    → did nothing → Takes a b tail → StopsBy b tail end → end ≢ Spent
+    → TurnEnds base (streams_at a h) (streams_at b h) did (Err end)
 stops_at_once base a b h did tail end done taken stops unspent = record {
   n = 0;
   within = omega arith;
@@ -54,84 +54,65 @@ stops_at_once base a b h did tail end done taken stops unspent = record {
     answered = tt;
     done = done;
     tail = tail;
-    taken = taken;
-    stops = stops;
     out = [];
-    held = holds_nothing h;
+    moved = record { taken = taken; held = holds_nothing h };
+    stops = stops;
     writes = record { missing = []; front = refl; all = λ _. refl };
   };
 }
 
-pub reading_stops : (base : Base) (a b h : Option (List ℕ)) (did : List Entry → List Call → List Tick → Type 0)
-    (end : NbdEnd)
-    → did [] [] [] → ((bytes : List ℕ) × Takes a b bytes × StopsRequest b bytes end)
-    → TurnEnds base a b h h did (Err (end_of end))
+pub reading_stops : (base : Base) (a b h : Option (List ℕ)) (did : Deed → Type 0) (end : NbdEnd) → did nothing
+    → ((bytes : List ℕ) × Takes a b bytes × StopsRequest b bytes end)
+    → TurnEnds base (streams_at a h) (streams_at b h) did (Err (end_of end))
 reading_stops base a b h did end done read =
     stops_at_once base a b h did read.0 (end_of end) done read.1 (stops_by b read.0 end read.2)
     (end_unspent end)
 
-pub disc_stops : (base : Base) (a b h : Option (List ℕ))
-    (did : List Entry → List Call → List Tick → Type 0) (r : Request)
-    → did [] [] [] → IsRequest r → is_disc r.wanted ≡ true → Takes a b (request_bytes r)
-    → TurnEnds base a b h h did (Err Disconnected)
+pub disc_stops : (base : Base) (a b h : Option (List ℕ)) (did : Deed → Type 0) (r : Request)
+    → did nothing → IsRequest r → is_disc r.wanted ≡ true → Takes a b (request_bytes r)
+    → TurnEnds base (streams_at a h) (streams_at b h) did (Err Disconnected)
 disc_stops base a b h did r done is disc taken =
     stops_at_once base a b h did (request_bytes r) Disconnected done taken
     (r, record { request = is; disc = disc }, refl) (λ e. cc)
 
 -- the exchange of a request that was done
-abbrev exchange : Request → List Entry → List Call → List Tick → ℕ → List ℕ → Exchange
-exchange r entries calls ticks error body = record {
-  request = r;
-  entries = entries;
-  calls = calls;
-  ticks = ticks;
-  error = error;
-  body = body;
-}
+abbrev exchange : Request → Deed → ℕ → List ℕ → Exchange
+exchange r deed error body = record { request = r; deed = deed; error = error; body = body }
 
--- what one exchange did
-did_one : (did : List Entry → List Call → List Tick → Type 0) (entries : List Entry)
-    (calls : List Call) (ticks : List Tick) → did entries calls ticks
-    → did (entries ++ []) (calls ++ []) (ticks ++ [])
-did_one did entries calls ticks done =
-    subst (λ es. did es (calls ++ []) (ticks ++ [])) (sym (append-nil entries))
-    (subst (λ cs. did entries cs (ticks ++ [])) (sym (append-nil calls))
-    (subst (did entries calls) (sym (append-nil ticks)) done))
-
-pub serves_one : (base : Base) (a b ha hb : Option (List ℕ)) (did : List Entry → List Call → List Tick → Type 0)
+pub serves_one : (base : Base) (a b ha hb : Option (List ℕ)) (did : Deed → Type 0)
     (r : Request) (error : ℕ) (body : List ℕ)
     → IsRequest r → is_disc r.wanted ≡ false → Answers did base r error body
     → Takes a b (request_bytes r) → Holds ha hb (reply_bytes error r.wanted.cookie body)
-    → Serves base a b ha hb did 1
+    → Serves base (streams_at a ha) (streams_at b hb) did 1
 serves_one base a b ha hb did r error body is goes_on answers taken held = record {
-  transcript = exchange r answers.entries answers.calls answers.ticks error body ∷ [];
+  transcript = exchange r answers.deed error body ∷ [];
   count = refl;
   answered = (record { request = is; goes_on = goes_on; answer = answers.ends; asks = answers.asks }, tt);
-  done = did_one did answers.entries answers.calls answers.ticks answers.done;
-  taken = taken;
-  held = held;
+  done = subst did (sym (followed-nothing answers.deed)) answers.done;
+  moved = record { taken = taken; held = held };
 }
 
-pub writing_stops : (base : Base) (a b ha hb : Option (List ℕ))
-    (did : List Entry → List Call → List Tick → Type 0) (r : Request) (error : ℕ) (body : List ℕ) (fault : NbdEnd)
-    → IsRequest r → is_disc r.wanted ≡ false → Answers did base r error body
+pub writing_stops : (base : Base) (a b ha hb : Option (List ℕ)) (did : Deed → Type 0) (r : Request) (error : ℕ)
+    (body : List ℕ) (fault : NbdEnd) → IsRequest r → is_disc r.wanted ≡ false → Answers did base r error body
     → Takes a b (request_bytes r) → WriteHolds ha hb (Err fault) (reply_bytes error r.wanted.cookie body)
-    → TurnEnds base a b ha hb did (Err WriteFault)
+    → TurnEnds base (streams_at a ha) (streams_at b hb) did (Err WriteFault)
 writing_stops base a b ha hb did r error body fault is goes_on answers taken held = record {
   n = 1;
   within = omega arith;
   one = λ _. refl;
   unspent = λ e. cc;
   stopped = record {
-    transcript = exchange r answers.entries answers.calls answers.ticks error body ∷ [];
+    transcript = exchange r answers.deed error body ∷ [];
     count = refl;
     answered = (record { request = is; goes_on = goes_on; answer = answers.ends; asks = answers.asks }, tt);
-    done = did_one did answers.entries answers.calls answers.ticks answers.done;
+    done = subst did (sym (followed-nothing answers.deed)) answers.done;
     tail = [];
-    taken = subst (Takes a b) (sym (append-nil (request_bytes r))) taken;
-    stops = refl;
     out = held.0;
-    held = held.3;
+    moved = record {
+      taken = subst (Takes a b) (sym (append-nil (request_bytes r))) taken;
+      held = held.3;
+    };
+    stops = refl;
     writes = record { missing = held.1; front = held.2; all = λ other. absurd (other refl) };
   };
 }

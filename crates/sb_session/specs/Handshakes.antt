@@ -2,15 +2,19 @@
 use Rattle.std.specs.Prelude.{ℕ, ◌≡◌, ◌≢◌, ◌≤◌, ◌*◌, ◌⊎◌, Bool, nat_lt, List, [], ◌++◌, Option, Result, Ok, Err}
 use Rattle.std.specs.Int.{w32, to_be_bytes}
 use Rattle.sb_base.specs.declared.geometry.Geometry.{Geometry}
-use Rattle.sb_world.specs.Streams.{Takes, Holds}
 use Rattle.sb_nbd.specs.declared.end.NbdEnd.{NbdEnd}
 use Rattle.sb_nbd.specs.declared.end.NbdEnd.TheVariants as nbd
 use Rattle.sb_nbd.specs.Numbers.{export_name, max_flags}
 use Rattle.sb_nbd.specs.Options as options
 use Rattle.sb_nbd.specs.OptionReading.{StopsOption}
 use Rattle.sb_nbd.specs.Greetings.{greeting_bytes, export_bytes, StopsFlags}
+use Rattle.sb_session.specs.Streams.{Streams, Moves}
 use Rattle.sb_session.specs.declared.end.SessionEnd.{SessionEnd}
 use Rattle.sb_session.specs.declared.end.SessionEnd.TheVariants.{Ended, Refused, ReadFault, WriteFault}
+
+-- what an export tells of a disk that can be flushed: that it has flags (bit 0), and that (bit 2)
+abbrev pub transmission_flags : ℕ
+transmission_flags = 5
 
 -- the end of a session by the end of a reading
 abbrev pub end_of : NbdEnd → SessionEnd
@@ -41,12 +45,10 @@ abbrev pub IsFrontOf : List ℕ → List ℕ → Type 0
 IsFrontOf front bytes = (after : List ℕ) × (bytes ≡ front ++ after)
 
 -- the handshake was taken, and answered
-pub record Opened (geometry : Geometry) (transmission : ℕ)
-    (before now held_before held_now : Option (List ℕ)) : Type 0 where
+pub record Opened (geometry : Geometry) (transmission : ℕ) (before after : Streams) : Type 0 where
   pub flags : ℕ
   pub known : flags ≤ max_flags
-  pub taken : Takes before now (opening_bytes flags)
-  pub held : Holds held_before held_now (handshake_bytes geometry transmission flags)
+  pub moved : Moves before after (opening_bytes flags) (handshake_bytes geometry transmission flags)
 
 -- the greeting couldn't be written
 pub record GreetingFails (taken written : List ℕ) (end : SessionEnd) : Type 0 where
@@ -100,18 +102,13 @@ EndsHandshake geometry transmission now taken written end =
     ⊎ (OptionRefused taken written end ⊎ ExportFails geometry transmission taken written end)))
 
 -- a handshake that ended the session
-pub record Unopened (geometry : Geometry) (transmission : ℕ)
-    (before now held_before held_now : Option (List ℕ)) (end : SessionEnd) : Type 0 where
+pub record Unopened (geometry : Geometry) (transmission : ℕ) (before after : Streams) (end : SessionEnd) : Type 0 where
   pub bytes : List ℕ
   pub out : List ℕ
-  pub taken : Takes before now bytes
-  pub held : Holds held_before held_now out
-  pub why : EndsHandshake geometry transmission now bytes out end
+  pub moved : Moves before after bytes out
+  pub why : EndsHandshake geometry transmission after.left bytes out end
 
 -- what the handshake came to
-abbrev pub OpeningEnds : Geometry → ℕ → Option (List ℕ) → Option (List ℕ) → Option (List ℕ)
-    → Option (List ℕ) → Result Unit SessionEnd → Type 0
-OpeningEnds geometry transmission before now held_before held_now (Ok done) =
-    Opened geometry transmission before now held_before held_now
-OpeningEnds geometry transmission before now held_before held_now (Err end) =
-    Unopened geometry transmission before now held_before held_now end
+abbrev pub OpeningEnds : Geometry → ℕ → Streams → Streams → Result Unit SessionEnd → Type 0
+OpeningEnds geometry transmission before after (Ok done) = Opened geometry transmission before after
+OpeningEnds geometry transmission before after (Err end) = Unopened geometry transmission before after end

@@ -1,3 +1,4 @@
+pub mod Streams
 pub mod Goals
 pub mod Answers
 pub mod Transcripts

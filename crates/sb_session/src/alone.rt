@@ -5,8 +5,10 @@ ghost use Rattle.sb_base.specs.Shapes.{IsSound};
 ghost use Rattle.sb_world.specs.Told.{CountsFaults};
 ghost use Rattle.sb_core.specs.Represents.{geometry_of};
 ghost use Rattle.sb_crew.specs.Bases.{base_of};
-ghost use Rattle.sb_crew.specs.Disks.{core_of, names_of, tape_of, IsReadyWith};
+ghost use Rattle.sb_crew.specs.Disks.{core_of, scene_of, IsReadyWith};
 ghost use Rattle.sb_crew.specs.Runs.{Did};
+ghost use Rattle.sb_session.specs.Streams.{streams_at};
+ghost use Rattle.sb_session.specs.Handshakes.{transmission_flags};
 ghost use Rattle.sb_session.specs.Sessions.{SessionTold};
 
 use crate::buffer::Buffer;
@@ -29,11 +31,10 @@ pub fn serve_alone<T: Tape, L: Link, C: Clock, R: Source, S: Sink>(
     requires ready { IsReadyWith disk.old desk.old }
     requires sound { IsSound (geometry_of (core_of disk.old)) }
     ensures ready { IsReadyWith disk.new desk.new }
-    ensures told { SessionTold (base_of (core_of disk.old)) TRANSMISSION_FLAGS (R.left source.old)
-        (R.left source.new) (S.held sink.old) (S.held sink.new) (Did (names_of disk.old) (names_of disk.new)
-        (core_of disk.old) (core_of disk.new) (T.told (tape_of disk.old)) (T.told (tape_of disk.new))
-        (L.log desk.old.link) (L.log desk.new.link) (L.faults desk.old.link) (L.faults desk.new.link)
-        (C.ticks desk.old.clock) (C.ticks desk.new.clock)) result }
+    ensures told { let scene = scene_of T.Tape L.Link C.Clock in
+        SessionTold (base_of (core_of disk.old)) transmission_flags
+        (streams_at (R.left source.old) (S.held sink.old)) (streams_at (R.left source.new) (S.held sink.new))
+        (Did (scene disk.old desk.old) (scene disk.new desk.new)) result }
     ensures read_cause { CountsFaults (R.faults source.old) (R.faults source.new) (result ≡ SessionEnd.ReadFault) }
     ensures write_cause { CountsFaults (S.faults sink.old) (S.faults sink.new) (result ≡ SessionEnd.WriteFault) }
 {

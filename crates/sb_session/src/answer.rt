@@ -137,7 +137,7 @@ fn answer_flush<K, D: Calls<K>>(disk: &mut D, desk: &mut K) -> u32
 {
     match disk.flush(desk) {
         Ok(()) => 0,
-        Err(fault) => number_of(fault),
+        Err(fault) => number_of(CallFault::from(fault)),
     }
 }
 

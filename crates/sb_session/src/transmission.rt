@@ -3,6 +3,7 @@
 ghost use Rattle.std.specs.Prelude.{◌≡◌, ◌≤◌, length, IsErrOf};
 ghost use Rattle.sb_base.specs.Shapes.{IsSound};
 ghost use Rattle.sb_world.specs.Told.{CountsFaults};
+ghost use Rattle.sb_session.specs.Streams.{streams_at};
 ghost use Rattle.sb_session.specs.Handshakes.{end_of};
 ghost use Rattle.sb_session.specs.Turns.{TurnEnds, TurnsEnd};
 
@@ -27,8 +28,8 @@ pub(crate) fn transmit<K, D: Calls<K>, R: Source, S: Sink>(
     requires sound { IsSound (D.base disk.old).geometry }
     requires room { MAX_PAYLOAD ≤ length room.old }
     ensures ready { D.ready disk.new desk.new }
-    ensures told { TurnsEnd (D.base disk.old) (R.left source.old) (R.left source.new) (S.held sink.old)
-        (S.held sink.new) (D.did disk.old desk.old disk.new desk.new) result }
+    ensures told { TurnsEnd (D.base disk.old) (streams_at (R.left source.old) (S.held sink.old))
+        (streams_at (R.left source.new) (S.held sink.new)) (D.did disk.old desk.old disk.new desk.new) result }
     ensures read_cause { CountsFaults (R.faults source.old) (R.faults source.new) (result ≡ SessionEnd.ReadFault) }
     ensures write_cause { CountsFaults (S.faults sink.old) (S.faults sink.new) (result ≡ SessionEnd.WriteFault) }
     ensures base { D.base disk.new ≡ D.base disk.old }
@@ -55,8 +56,8 @@ fn turn<K, D: Calls<K>, R: Source, S: Sink>(
     requires sound { IsSound (D.base disk.old).geometry }
     requires room { MAX_PAYLOAD ≤ length room.old }
     ensures ready { D.ready disk.new desk.new }
-    ensures told { TurnEnds (D.base disk.old) (R.left source.old) (R.left source.new) (S.held sink.old)
-        (S.held sink.new) (D.did disk.old desk.old disk.new desk.new) result }
+    ensures told { TurnEnds (D.base disk.old) (streams_at (R.left source.old) (S.held sink.old))
+        (streams_at (R.left source.new) (S.held sink.new)) (D.did disk.old desk.old disk.new desk.new) result }
     ensures read_cause { CountsFaults (R.faults source.old) (R.faults source.new)
         (IsErrOf result SessionEnd.ReadFault) }
     ensures write_cause { CountsFaults (S.faults sink.old) (S.faults sink.new)

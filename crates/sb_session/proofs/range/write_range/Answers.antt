@@ -45,7 +45,7 @@ returns-in-Err-clause-told g c =
     let stops = writes_stop (g.D.Calls.base c.args.disk.now) _ _ did
     (g.D.Calls.did_both c.args.disk.now c.args.desk.now c.loop-part.disk
     c.loop-part.desk c.write.new.self c.write.new.desk)
-    yielded c.next.new.self c.in-Some.part c.args.payload.now [] c.in-Err.fault before.told
+    yielded c.next.new.self c.in-Some.part c.loop-part.at c.args.payload.now c.in-Err.fault before.at before.told
     (rw before.base at c.in-Err.ensures.did) in
     subst (λ parts. WritesRange (g.D.Calls.base c.args.disk.now) did parts c.args.payload.now (Err c.in-Err.fault))
     split stops

@@ -7,21 +7,16 @@ returns-in-Ok-clause-told g c =
     let opened = rw c.geometry.ensures at c.in-Ok.ensures.told in
     let ends = c.transmit.ensures.told in
     record {
-      entries = _;
-      calls = _;
-      ticks = _;
+      deed = _;
       done = ends.stopped.done;
-      course = inr (served _ _ _ _ _ _ _ _ _ _ opened ends);
+      course = inr (served _ _ _ _ _ _ _ opened ends);
     }
 
 pub returns-in-Err-clause-told : goal.returns-in-Err-clause-told
 returns-in-Err-clause-told g c =
     let ended = rw c.geometry.ensures at c.in-Err.ensures.told in
     record {
-      entries = _;
-      calls = _;
-      ticks = _;
+      deed = _;
       done = g.D.Calls.did_nothing c.args.disk.now c.args.desk.now;
-      course =
-          inl (ended, refl, refl, refl);
+      course = inl (ended, refl);
     }
