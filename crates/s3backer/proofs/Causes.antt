@@ -7,24 +7,28 @@ use Rattle.std.proofs.Math.Nat.{min-le_left, min-le_right, le_trans}
 use Rattle.sb_base.specs.declared.geometry.Geometry.{Geometry}
 use Rattle.sb_base.specs.declared.entry.Entry.{Entry}
 use Rattle.sb_world.specs.Told.{Rose}
-use Rattle.sb_world.specs.declared.clock.Tick.{Tick}
 use Rattle.sb_world.specs.declared.link.Call.{Call}
 use Rattle.sb_world.specs.declared.link.LinkFault.{LinkFault}
+use Rattle.sb_world.specs.declared.link.LinkFault.TheVariants as link
 use Rattle.sb_nbd.specs.declared.wanted.Wanted.{Wanted}
 use Rattle.sb_nbd.specs.Numbers.{einval, eio, enomem, enospc, flush_type, max_payload, read_type, write_type}
 use Rattle.sb_nbd.specs.Requests.{Request}
 use Rattle.sb_crew.specs.Bases.{Base}
 use Rattle.sb_crew.specs.declared.calls.CallFault.{CallFault}
 use Rattle.sb_crew.specs.declared.calls.CallFault.TheVariants.{StoreFault, Memory, StaleRead, ClockStalled}
-use Rattle.sb_crew.specs.Outcomes.{Outcome, HasCause, Stops, FlushEnds}
+use Rattle.sb_crew.specs.declared.calls.FlushFault.{FlushFault}
+use Rattle.sb_crew.specs.declared.calls.FlushFault.TheVariants as flush
+use Rattle.sb_crew.specs.Scenes.{Deed}
+use Rattle.sb_crew.specs.Outcomes.{Outcome, FailsBy, HasCause, Stops, GoalEnds, FlushEnds}
 use Rattle.sb_crew.specs.Counts.{is_failure, failures, Counts}
 use Rattle.sb_crew.specs.Joins.{failures_join}
 use Rattle.sb_session.specs.declared.end.SessionEnd.{SessionEnd}
 use Rattle.sb_session.specs.declared.end.SessionEnd.TheVariants as end
 use Rattle.sb_session.specs.Goals.{refusal, passes_end, goal_of, body_of}
-use Rattle.sb_session.specs.Answers.{AnswersBy, IsAnswer, error_of}
-use Rattle.sb_session.specs.Transcripts.{Exchange, IsTranscript, calls_of}
-use Rattle.sb_session.specs.Sessions.{Served}
+use Rattle.sb_session.specs.Answers.{AnswersBy, IsReplyTo, error_of}
+use Rattle.sb_session.specs.Streams.{Streams}
+use Rattle.sb_session.specs.Transcripts.{Exchange, IsTranscript, deed_in}
+use Rattle.sb_session.specs.Sessions.{Course}
 use Rattle.s3backer.specs.Headline.{flush_status, run_status, NoneFailed, FailsByTime}
 
 -- a sum of nothing has nothing in it
@@ -47,15 +51,18 @@ quiet_has_none before now calls quiet counts = by counts.risen where
   by (inr high) = absurd (quiet (le_trans (min-le_right (before + 1) (2 ^ 64 - 1)) high))
 
 -- a failed call is one
-cause_fails : (base : Base) (status : ℕ) (entries : List Entry) (calls : List Call) (ticks : List Tick)
-    → HasCause base (StoreFault status) entries calls ticks
+call_fails : (status : ℕ) (entries : List Entry) (calls : List Call) → FailsBy (link.Failed status) entries calls
     → failures calls ≡ 0 → ⊥
-cause_fails base status [] calls ticks cause none = cause
-cause_fails base status (entry ∷ entries) [] ticks cause none = cause
-cause_fails base status (entry ∷ entries) (asked ∷ calls) ticks cause none =
+call_fails status [] calls cause none = cause
+call_fails status (entry ∷ entries) [] cause none = cause
+call_fails status (entry ∷ entries) (asked ∷ calls) cause none =
     let P : Option LinkFault → Type 0 = λ fault. (if is_failure fault then 1 else 0) + failures calls ≡ 0 in
     let one : 1 + failures calls ≡ 0 = subst P cause.1 none in
     omega (arith, one)
+
+cause_fails : (base : Base) (status : ℕ) (deed : Deed) → HasCause base (StoreFault status) deed
+    → failures deed.calls ≡ 0 → ⊥
+cause_fails base status deed cause none = call_fails status deed.entries deed.calls cause none
 
 -- no request is refused by the error of a store that failed
 abbrev IsOtherCode : Option ℕ → Type 0
@@ -96,98 +103,89 @@ none_is_other : 0 ≢ eio
 none_is_other is = absurd (omega (arith, is))
 
 -- the reply to a request none of whose calls failed
-number_otherwise : (base : Base) (fault : CallFault) (goal : List Outcome) (entries : List Entry)
-    (calls : List Call) (ticks : List Tick) (error : ℕ) → Stops base goal entries calls ticks fault
-    → error ≡ error_of fault → failures calls ≡ 0 → (error ≢ eio) ⊎ FailsByTime base entries calls ticks
-number_otherwise base (StoreFault status) goal entries calls ticks error stops is none =
-    absurd (cause_fails base status entries calls ticks stops.cause none)
-number_otherwise base Memory goal entries calls ticks error stops is none =
+number_otherwise : (base : Base) (goal : List Outcome) (deed : Deed) (fault : CallFault) (error : ℕ)
+    → Stops base goal deed fault → error ≡ error_of fault → failures deed.calls ≡ 0
+    → (error ≢ eio) ⊎ FailsByTime base deed
+number_otherwise base goal deed (StoreFault status) error stops is none =
+    absurd (cause_fails base status deed stops.cause none)
+number_otherwise base goal deed Memory error stops is none =
     inl (subst (λ (n : ℕ). n ≢ eio) (sym is) memory_is_other)
-number_otherwise base (StaleRead block expected shown begun) goal entries calls ticks error stops is none =
+number_otherwise base goal deed (StaleRead block expected shown begun) error stops is none =
     inr (record { fault = StaleRead block expected shown begun; of_time = tt; cause = stops.cause })
-number_otherwise base (ClockStalled before asked after) goal entries calls ticks error stops is none =
+number_otherwise base goal deed (ClockStalled before asked after) error stops is none =
     inr (record { fault = ClockStalled before asked after; of_time = tt; cause = stops.cause })
 
-answer_otherwise : (base : Base) (goal : List Outcome) (bytes : List ℕ) (entries : List Entry) (calls : List Call)
-    (ticks : List Tick) (error : ℕ) (body : List ℕ) → failures calls ≡ 0
-    → IsAnswer base goal bytes entries calls ticks error body
-    → (error ≢ eio) ⊎ FailsByTime base entries calls ticks
-answer_otherwise base goal bytes entries calls ticks error body none (inl done) =
-    inl (subst (λ (n : ℕ). n ≢ eio) (sym done.no_error) none_is_other)
-answer_otherwise base goal bytes entries calls ticks error body none (inr failed) =
-    number_otherwise base failed.fault goal entries calls ticks error failed.stops failed.number none
+answer_otherwise : (base : Base) (goal : List Outcome) (bytes : List ℕ) (deed : Deed) (error : ℕ) (body : List ℕ)
+    (result : Result Unit CallFault) → failures deed.calls ≡ 0 → GoalEnds base goal result deed
+    → IsReplyTo result bytes error body → (error ≢ eio) ⊎ FailsByTime base deed
+answer_otherwise base goal bytes deed error body (Ok done) none ends reply =
+    inl (subst (λ (n : ℕ). n ≢ eio) (sym reply.0) none_is_other)
+answer_otherwise base goal bytes deed error body (Err fault) none ends reply =
+    number_otherwise base goal deed fault error ends reply.0 none
 
-reply_otherwise : (refused : Option ℕ) → IsOther refused
-    → (base : Base) (r : Request) (error : ℕ) (body : List ℕ)
-    (entries : List Entry) (calls : List Call) (ticks : List Tick) → failures calls ≡ 0
-    → AnswersBy refused base r error body entries calls ticks
-    → (error ≢ eio) ⊎ FailsByTime base entries calls ticks
-reply_otherwise (Some code) other base r error body entries calls ticks none answer =
+reply_otherwise : (refused : Option ℕ) → IsOther refused → (base : Base) (r : Request) (error : ℕ) (body : List ℕ)
+    (deed : Deed) → failures deed.calls ≡ 0 → AnswersBy refused base r error body deed
+    → (error ≢ eio) ⊎ FailsByTime base deed
+reply_otherwise (Some code) other base r error body deed none answer =
     inl (subst (λ (n : ℕ). n ≢ eio) (sym answer.number) other.code)
-reply_otherwise None other base r error body entries calls ticks none answer =
-    answer_otherwise base (goal_of base.geometry r answer.0) (body_of r.wanted entries) entries calls ticks error body
-    none answer.1
+reply_otherwise None other base r error body deed none answer =
+    answer_otherwise base (goal_of base.geometry r answer.0) (body_of r.wanted deed.entries) deed error body
+    answer.1.result none answer.1.ends answer.1.reply
 
-replies_otherwise : (base : Base) (xs : List Exchange) → failures (calls_of xs) ≡ 0 → IsTranscript base xs
-    → AllByRecursion (λ x. (x.error ≢ eio) ⊎ FailsByTime base x.entries x.calls x.ticks) xs
+replies_otherwise : (base : Base) (xs : List Exchange) → failures (deed_in xs).calls ≡ 0 → IsTranscript base xs
+    → AllByRecursion (λ x. (x.error ≢ eio) ⊎ FailsByTime base x.deed) xs
 replies_otherwise base [] none answered = tt
 replies_otherwise base (x ∷ xs) none answered =
-    let parts = sum_nothing (failures x.calls) (failures (calls_of xs))
-    (sym (failures_join x.calls (calls_of xs)) ∙ none) in (
+    let parts = sum_nothing (failures x.deed.calls) (failures (deed_in xs).calls)
+    (sym (failures_join x.deed.calls (deed_in xs).calls) ∙ none) in (
       reply_otherwise (refusal base.geometry x.request.wanted)
           (refused_otherwise base.geometry x.request.wanted) base x.request
-          x.error x.body x.entries x.calls x.ticks parts.0 answered.0.answer,
+          x.error x.body x.deed parts.0 answered.0.answer,
       replies_otherwise base xs parts.1 answered.1,
     )
 
 -- without a fault of the store no reply tells one
-pub none_failed : {base : Base} {transmission : ℕ} {before now held_before held_now : Option (List ℕ)}
-    {ended : SessionEnd} {entries : List Entry} {calls : List Call} {ticks : List Tick} {Unserved : Type 0}
-    (course : Unserved ⊎ Served base transmission before now held_before held_now ended entries calls ticks)
-    (faults faults' : ℕ) (flush_calls : List Call) → (Rose faults faults' → ⊥)
-    → Counts faults faults' (flush_calls ++ calls)
-    → NoneFailed course
+pub none_failed : {base : Base} {transmission : ℕ} {before after : Streams} {ended : SessionEnd} {deed : Deed}
+    (course : Course base transmission before after ended deed) (faults faults' : ℕ) (flush_calls : List Call)
+    → (Rose faults faults' → ⊥) → Counts faults faults' (flush_calls ++ deed.calls) → NoneFailed course
 none_failed (inl unserved) faults faults' flush_calls quiet counts = tt
-none_failed {base} {calls = calls} (inr served) faults faults' flush_calls quiet counts =
-    let none = quiet_has_none faults faults' (flush_calls ++ calls) quiet counts in
-    let parts = sum_nothing (failures flush_calls) (failures calls) (sym (failures_join flush_calls calls) ∙ none) in
-    replies_otherwise base served.transcript (ap failures (sym served.calls_are) ∙ parts.1) served.answered
+none_failed {base} {deed = deed} (inr served) faults faults' flush_calls quiet counts =
+    let none = quiet_has_none faults faults' (flush_calls ++ deed.calls) quiet counts in
+    let parts = sum_nothing (failures flush_calls) (failures deed.calls)
+    (sym (failures_join flush_calls deed.calls) ∙ none) in
+    replies_otherwise base served.transcript
+    (ap (λ (d : Deed). failures d.calls) (sym served.deed_is) ∙ parts.1) served.answered
 
 -- a flush none of whose calls failed ended well, or lacked memory, or its clock stood still
-flushed_well : (base : Base) (flushed : Result Unit CallFault) (entries : List Entry) (calls : List Call)
-    (ticks : List Tick) → FlushEnds base flushed entries calls ticks
-    → failures calls ≡ 0 → (flush_status flushed ≡ 0) ⊎ ((flush_status flushed ≡ 12) ⊎ (flush_status flushed ≡ 11))
-flushed_well base (Ok done) entries calls ticks ends none = inl refl
-flushed_well base (Err (StoreFault status)) entries calls ticks ends none = absurd
-    (cause_fails base status entries calls ticks ends.1.cause none)
-flushed_well base (Err Memory) entries calls ticks ends none = inr (inl refl)
-flushed_well base (Err (ClockStalled before asked after)) entries calls ticks ends none = inr (inr refl)
-flushed_well base (Err (StaleRead block expected shown begun)) entries calls ticks ends none = absurd ends.2
+flushed_well : (base : Base) (flushed : Result Unit FlushFault) (deed : Deed) → FlushEnds base flushed deed
+    → failures deed.calls ≡ 0
+    → (flush_status flushed ≡ 0) ⊎ ((flush_status flushed ≡ 12) ⊎ (flush_status flushed ≡ 11))
+flushed_well base (Ok done) deed ends none = inl refl
+flushed_well base (Err (flush.StoreFault status)) deed ends none =
+    absurd (cause_fails base status deed ends.1.cause none)
+flushed_well base (Err flush.Memory) deed ends none = inr (inl refl)
+flushed_well base (Err (flush.ClockStalled before asked after)) deed ends none = inr (inr refl)
 
 -- without any fault, and of an input that isn't refused and isn't too long, a run ends well or lacks memory, or its
 -- clock stands still
-pub ended_well : (base : Base) (ended : SessionEnd) (flushed : Result Unit CallFault) (entries : List Entry)
-    (calls flush_calls : List Call) (flush_ticks : List Tick)
-    (faults faults' : ℕ) {Read Written : Type 0} → FlushEnds base flushed entries flush_calls flush_ticks
-    → (Rose faults faults' → ⊥) → Counts faults faults' (flush_calls ++ calls)
+pub ended_well : (base : Base) (ended : SessionEnd) (flushed : Result Unit FlushFault) (deed : Deed)
+    (calls : List Call) (faults faults' : ℕ) {Read Written : Type 0} → FlushEnds base flushed deed
+    → (Rose faults faults' → ⊥) → Counts faults faults' (deed.calls ++ calls)
     → (ended ≡ end.ReadFault → Read) → (ended ≡ end.WriteFault → Written) → (Read → ⊥) → (Written → ⊥)
     → ended ≢ end.Refused → ended ≢ end.Spent → (run_status ended flushed ≡ 0)
     ⊎ ((run_status ended flushed ≡ 12) ⊎ (run_status ended flushed ≡ 11))
-ended_well base ended flushed entries calls flush_calls flush_ticks faults faults' {Read = Read}
-    {Written = Written} ends quiet counts at_read
+ended_well base ended flushed deed calls faults faults' {Read = Read} {Written = Written} ends quiet counts at_read
     at_write read written refused spent =
     by ended at_read at_write refused spent where
-      none : failures flush_calls ≡ 0
-      none = (sum_nothing (failures flush_calls) (failures calls)
-          (sym (failures_join flush_calls calls) ∙ quiet_has_none faults faults' (flush_calls ++ calls) quiet counts)).0
+      none : failures deed.calls ≡ 0
+      none = (sum_nothing (failures deed.calls) (failures calls)
+          (sym (failures_join deed.calls calls) ∙ quiet_has_none faults faults' (deed.calls ++ calls) quiet counts)).0
 
       by : (e : SessionEnd) → (e ≡ end.ReadFault → Read) → (e ≡ end.WriteFault → Written) → e ≢ end.Refused
           → e ≢ end.Spent
           → (run_status e flushed ≡ 0) ⊎ ((run_status e flushed ≡ 12) ⊎ (run_status e flushed ≡ 11))
-      by end.Disconnected at_read at_write refused spent = flushed_well base flushed entries flush_calls
-          flush_ticks ends none
-      by end.Ended at_read at_write refused spent = flushed_well base flushed entries flush_calls
-          flush_ticks ends none
+      by end.Disconnected at_read at_write refused spent = flushed_well base flushed deed ends none
+      by end.Ended at_read at_write refused spent = flushed_well base flushed deed ends none
       by end.Refused at_read at_write refused spent = absurd (refused refl)
       by end.ReadFault at_read at_write refused spent = absurd (read (at_read refl))
       by end.WriteFault at_read at_write refused spent = absurd (written (at_write refl))

@@ -5,8 +5,6 @@ use Rattle.sb_base.specs.declared.geometry.Geometry.{Geometry}
 use Rattle.sb_base.specs.declared.settings.Settings.{Settings}
 use Rattle.sb_base.specs.declared.entry.Entry.{Entry}
 use Rattle.sb_world.specs.Told.{CountsFaults}
-use Rattle.sb_world.specs.declared.clock.Tick.{Tick}
-use Rattle.sb_world.specs.declared.link.Call.{Call}
 use Rattle.sb_history.specs.AccessRules.{FollowsAccessRules}
 use Rattle.sb_history.specs.CachePolicy.{FollowsCachePolicy}
 use Rattle.sb_history.specs.ClockTrace.{ClockTrace}
@@ -18,8 +16,9 @@ use Rattle.sb_history.specs.Requests.{RequestLog}
 use Rattle.sb_core.specs.declared.machine.Core.{Core}
 use Rattle.sb_core.specs.Represents.{Represents, nothing_found}
 use Rattle.sb_crew.specs.Bases.{Base, base_of}
-use Rattle.sb_crew.specs.declared.calls.CallFault.{CallFault}
-use Rattle.sb_crew.specs.declared.calls.CallFault.TheVariants.{StoreFault, Memory, StaleRead, ClockStalled}
+use Rattle.sb_crew.specs.Scenes.{Deed, Scene, followed}
+use Rattle.sb_crew.specs.declared.calls.FlushFault.{FlushFault}
+use Rattle.sb_crew.specs.declared.calls.FlushFault.TheVariants as flush
 use Rattle.sb_crew.specs.Outcomes.{Outcome, outcomes_of, FlushEnds, FlushDoes}
 use Rattle.sb_crew.specs.Names.{Naming, name_of}
 use Rattle.sb_crew.specs.Runs.{Did, only_caller}
@@ -28,34 +27,51 @@ use Rattle.sb_crew.proofs.OutcomeLemmas.{outcomes_join}
 use Rattle.sb_crew.proofs.Turning.{same_base_of}
 use Rattle.sb_session.specs.declared.end.SessionEnd.{SessionEnd}
 use Rattle.sb_session.specs.declared.end.SessionEnd.TheVariants as end
-use Rattle.sb_session.specs.declared.alone.TheConstants.{TRANSMISSION_FLAGS}
+use Rattle.sb_session.specs.Streams.{Streams}
+use Rattle.sb_session.specs.Handshakes.{transmission_flags}
 use Rattle.sb_session.specs.Sessions.{SessionTold}
 use Rattle.s3backer.proofs.Causes.{none_failed, ended_well}
-use Rattle.s3backer.specs.declared.settings.TheConstants.{SETTINGS}
 use Rattle.s3backer.specs.Fresh.{IsFresh}
-use Rattle.s3backer.specs.Plans.{PlanParts, naming_of}
-use Rattle.s3backer.specs.Headline.{plan_base, IsWithin, IsHistory, IsSaved, ServesSession, run_status, run_line}
-use Rattle.s3backer.specs.Headline.{ComplainsOf}
+use Rattle.s3backer.specs.Plans.{PlanParts, naming_of, plan_base, default_settings}
+use Rattle.s3backer.specs.Views.{View}
+use Rattle.s3backer.specs.Headline.{IsWithin, IsHistory, IsSaved, ServesSession, run_status, run_line, ComplainsOf}
+
+-- a view of a scene, of the streams of a client, and of an error sink
+abbrev pub seen : Scene → Streams → ℕ → ℕ → Option (List ℕ) → ℕ → View
+seen scene streams read_faults write_faults errors error_faults = record {
+  log = scene.log;
+  link_faults = scene.faults;
+  ticks = scene.ticks;
+  streams = streams;
+  read_faults = read_faults;
+  write_faults = write_faults;
+  errors = errors;
+  error_faults = error_faults;
+  tape = scene.disk.tape;
+}
 
 -- what was done to a fresh core under the plan's names is a disk's history
-history_of : (plan : PlanParts) (names names' : Naming) (core core' : Core) (tape tape' : Option (List Entry))
-    (log log' : Option (List Call)) (faults faults' : ℕ) (clock clock' : Option (List Tick)) (entries : List Entry)
-    (calls : List Call) (ticks : List Tick) → SoundIsLegal → SoundFlushes
-    → SoundSurvivesCrash → IsFresh plan.geometry core → names ≡ naming_of plan
-    → Did names names' core core' tape tape' log log' faults faults' clock clock' entries calls ticks
-    → IsHistory plan tape tape' log log' clock clock' entries calls ticks
-history_of plan names names' core core' tape tape' log log' faults faults' clock clock' entries calls ticks legal
-    flushes survives fresh named did =
+history_of : (plan : PlanParts) (a b : Scene) (deed : Deed) (streams streams' : Streams)
+    (read written errors read' written' errors' : ℕ) (held held' : Option (List ℕ))
+    → SoundIsLegal → SoundFlushes → SoundSurvivesCrash → IsFresh plan.geometry a.disk.core
+    → a.disk.names ≡ naming_of plan → Did a b deed
+    → IsHistory plan (seen a streams read written held errors) (seen b streams' read' written' held' errors') deed
+history_of plan a b deed streams streams' read written errors read' written' errors' held held' legal flushes survives
+    fresh named did =
+    let core = a.disk.core in
+    let core' = b.disk.core in
+    let entries = deed.entries in
     let after = subst (λ (past : List Entry). Represents core' past) (append-nil entries)
     (did.runs.history [] tt fresh.represents) in
     let shape : core'.geometry ≡ plan.geometry = did.runs.base.geometry ∙ fresh.geometry_is in
-    let set : core'.settings ≡ SETTINGS = did.runs.base.settings ∙ fresh.settings_is in
+    let set : core'.settings ≡ default_settings = did.runs.base.settings ∙ fresh.settings_is in
     let rules = subst (λ (s : Settings). FollowsAccessRules plan.geometry s nothing_found entries) set
     (subst (λ (g : Geometry). FollowsAccessRules g core'.settings nothing_found entries) shape after.rules) in
     let policy = subst (λ (s : Settings). FollowsCachePolicy plan.geometry s nothing_found entries) set
     (subst (λ (g : Geometry). FollowsCachePolicy g core'.settings nothing_found entries) shape after.policy) in
     let sound : (start : Start) (delays : Delays) → IsWithin plan.geometry start delays entries
-    → IsSoundHistory plan.geometry SETTINGS nothing_found start delays entries = λ start delays within. record {
+    → IsSoundHistory plan.geometry default_settings nothing_found start delays entries =
+    λ start delays within. record {
       sized = within.sized;
       covers = within.covers;
       rules = rules;
@@ -67,47 +83,44 @@ history_of plan names names' core core' tape tape' log log' faults faults' clock
       of_pass = did.runs.of_pass;
       tape = did.runs.told;
       asked = did.asked.gained;
-      requests = subst (λ (n : Naming). RequestLog (name_of n) (Some n.meta) entries calls) named did.requests;
+      requests = subst (λ (n : Naming). RequestLog (name_of n) (Some n.meta) entries deed.calls) named did.requests;
       clock = did.runs.readings;
-      trace = subst (λ (s : Settings). ClockTrace plan.geometry s only_caller [] entries None ticks)
+      trace = subst (λ (s : Settings). ClockTrace plan.geometry s only_caller [] entries None deed.ticks)
           fresh.settings_is
-          (subst (λ (g : Geometry). ClockTrace g core.settings only_caller [] entries None ticks)
+          (subst (λ (g : Geometry). ClockTrace g core.settings only_caller [] entries None deed.ticks)
           fresh.geometry_is (did.runs.trace [] tt fresh.represents));
       rules = rules;
       policy = policy;
       legal = λ start delays within.
-          legal plan.geometry SETTINGS nothing_found start delays entries (sound start delays within);
+          legal plan.geometry default_settings nothing_found start delays entries (sound start delays within);
       durable = λ start delays within.
-          flushes plan.geometry SETTINGS nothing_found start delays entries (sound start delays within);
+          flushes plan.geometry default_settings nothing_found start delays entries (sound start delays within);
       survives = λ start delays within.
-          survives plan.geometry SETTINGS nothing_found start delays entries (sound start delays within);
+          survives plan.geometry default_settings nothing_found start delays entries (sound start delays within);
     }
 
 -- a flush that ended well, and the entries before it
-saved_by : (base : Base) (flushed : Result Unit CallFault) (flush session : List Entry) (calls : List Call)
-    (ticks : List Tick) → FlushEnds base flushed flush calls ticks
-    → flushed ≡ Ok tt → IsSaved (flush ++ session)
-saved_by base (Ok done) flush session calls ticks ends is = (
+saved_by : (base : Base) (flushed : Result Unit FlushFault) (flush : Deed) (session : List Entry)
+    → FlushEnds base flushed flush → flushed ≡ Ok tt → IsSaved (flush.entries ++ session)
+saved_by base (Ok done) flush session ends is = (
   ends.0,
   outcomes_of session,
-  outcomes_join flush session
-      ∙ ap (λ (os : List Outcome). os ++ outcomes_of session) ends.1,
+  outcomes_join flush.entries session
+      ∙ ap (λ (os : List Outcome). os ++ outcomes_of session) ends.1.met,
 )
-saved_by base (Err fault) flush session calls ticks ends is = absurd (cc)
+saved_by base (Err fault) flush session ends is = absurd (cc)
 
 -- status 0 comes only with a flush that ended well
-flushed_at_zero : (ended : SessionEnd) (flushed : Result Unit CallFault) → run_status ended flushed ≡ 0
+flushed_at_zero : (ended : SessionEnd) (flushed : Result Unit FlushFault) → run_status ended flushed ≡ 0
     → flushed ≡ Ok tt
 flushed_at_zero end.Disconnected (Ok done) zero = refl
 flushed_at_zero end.Ended (Ok done) zero = refl
-flushed_at_zero end.Disconnected (Err (StoreFault status)) zero = absurd (cc)
-flushed_at_zero end.Disconnected (Err Memory) zero = absurd (cc)
-flushed_at_zero end.Disconnected (Err (StaleRead block expected shown begun)) zero = absurd (cc)
-flushed_at_zero end.Disconnected (Err (ClockStalled before asked after)) zero = absurd (cc)
-flushed_at_zero end.Ended (Err (StoreFault status)) zero = absurd (cc)
-flushed_at_zero end.Ended (Err Memory) zero = absurd (cc)
-flushed_at_zero end.Ended (Err (StaleRead block expected shown begun)) zero = absurd (cc)
-flushed_at_zero end.Ended (Err (ClockStalled before asked after)) zero = absurd (cc)
+flushed_at_zero end.Disconnected (Err (flush.StoreFault status)) zero = absurd (cc)
+flushed_at_zero end.Disconnected (Err flush.Memory) zero = absurd (cc)
+flushed_at_zero end.Disconnected (Err (flush.ClockStalled before asked after)) zero = absurd (cc)
+flushed_at_zero end.Ended (Err (flush.StoreFault status)) zero = absurd (cc)
+flushed_at_zero end.Ended (Err flush.Memory) zero = absurd (cc)
+flushed_at_zero end.Ended (Err (flush.ClockStalled before asked after)) zero = absurd (cc)
 flushed_at_zero end.Refused flushed zero = absurd (cc)
 flushed_at_zero end.ReadFault flushed zero = absurd (cc)
 flushed_at_zero end.WriteFault flushed zero = absurd (cc)
@@ -120,47 +133,29 @@ fresh_base plan core fresh =
     ∙ ap (λ (settings : Settings). record { geometry = plan.geometry; settings = settings }) fresh.settings_is
 
 -- a session over a fresh core and the flush after it are what a run promises
-pub session_serves : {L C R S : Type 0} (log : L → Option (List Call)) (link_faults : L → ℕ)
-    (ticks : C → Option (List Tick)) (left : R → Option (List ℕ)) (read_faults : R → ℕ)
-    (held : S → Option (List ℕ)) (write_faults : S → ℕ) (plan : PlanParts) (names names1 names' : Naming)
-    (core mid core' : Core) (link link1 link' : L) (clock clock1 clock' : C) (input input' : R)
-    (output output' errors errors' : S) (tape tape1 tape' : Option (List Entry)) (ended : SessionEnd)
-    (flushed : Result Unit CallFault) (status : ℕ)
-    → SoundIsLegal → SoundFlushes → SoundSurvivesCrash → IsFresh plan.geometry core
-    → names ≡ naming_of plan
-    → SessionTold (base_of core) TRANSMISSION_FLAGS (left input) (left input') (held output) (held output')
-    (Did names names1 core mid tape tape1 (log link) (log link1) (link_faults link) (link_faults link1) (ticks clock)
-    (ticks clock1)) ended
-    → CountsFaults (read_faults input) (read_faults input') (ended ≡ end.ReadFault)
-    → CountsFaults (write_faults output) (write_faults output') (ended ≡ end.WriteFault)
-    → FlushDoes (base_of mid) (Did names1 names' mid core' tape1 tape' (log link1) (log link') (link_faults link1)
-    (link_faults link') (ticks clock1) (ticks clock')) flushed
-    → status ≡ run_status ended flushed
-    → ComplainsOf (run_line ended flushed) (held errors) (held errors') (write_faults errors) (write_faults errors')
-    → ServesSession log link_faults ticks left read_faults held write_faults plan link link' clock clock' input input'
-    output output' errors errors' tape tape' status
-session_serves log link_faults ticks left read_faults held write_faults plan names names1 names' core mid core' link
-    link1 link' clock clock1 clock' input input' output output' errors errors' tape tape1 tape' ended flushed status
+pub session_serves : (plan : PlanParts) (a b c : Scene) (streams streams' : Streams)
+    (read written errors read' written' errors' : ℕ) (held held' : Option (List ℕ)) (ended : SessionEnd)
+    (flushed : Result Unit FlushFault) (status : ℕ)
+    → SoundIsLegal → SoundFlushes → SoundSurvivesCrash → IsFresh plan.geometry a.disk.core
+    → a.disk.names ≡ naming_of plan
+    → SessionTold (base_of a.disk.core) transmission_flags streams streams' (Did a b) ended
+    → CountsFaults read read' (ended ≡ end.ReadFault) → CountsFaults written written' (ended ≡ end.WriteFault)
+    → FlushDoes (base_of b.disk.core) (Did b c) flushed → status ≡ run_status ended flushed
+    → ComplainsOf (run_line ended flushed) held held' errors errors'
+    → ServesSession plan (seen a streams read written held errors) (seen c streams' read' written' held' errors') status
+session_serves plan a b c streams streams' read written errors read' written' errors' held held' ended flushed status
     legal flushes survives fresh named session read_cause write_cause flush status_is complains =
-    let P : Base → Type 0 = λ base. SessionTold base TRANSMISSION_FLAGS (left input) (left input') (held output)
-    (held output') (Did names names1 core mid tape tape1 (log link) (log link1) (link_faults link) (link_faults link1)
-    (ticks clock) (ticks clock1)) ended in
-    let begun = fresh_base plan core fresh in
+    let P : Base → Type 0 = λ base. SessionTold base transmission_flags streams streams' (Did a b) ended in
+    let begun = fresh_base plan a.disk.core fresh in
     let told = subst P begun session in
-    let ends = subst (λ (base : Base). FlushEnds base flushed flush.entries flush.calls flush.ticks)
+    let ends = subst (λ (base : Base). FlushEnds base flushed flush.deed)
     (same_base_of told.done.runs.base ∙ begun) flush.ends in
     let did = did_join (λ past fits. fits) told.done flush.done in
     record {
-      entries = told.entries;
-      calls = told.calls;
-      session_ticks = told.ticks;
-      flush_entries = flush.entries;
-      flush_calls = flush.calls;
-      flush_ticks = flush.ticks;
-      history = history_of plan names names' core core' tape tape' (log link) (log link') (link_faults link)
-          (link_faults link') (ticks clock) (ticks clock') (flush.entries ++ told.entries) (flush.calls ++ told.calls)
-          (flush.ticks ++ told.ticks)
-          legal flushes survives fresh named did;
+      session = told.deed;
+      flush = flush.deed;
+      history = history_of plan a c (followed told.deed flush.deed) streams streams' read written errors read' written'
+          errors' held held' legal flushes survives fresh named did;
       ended = ended;
       course = told.course;
       read_cause = read_cause.rises;
@@ -171,13 +166,11 @@ session_serves log link_faults ticks left read_faults held write_faults plan nam
       flush_asks = flush.asks;
       status_is = status_is;
       complains = complains;
-      saved = λ zero. saved_by (plan_base plan) flushed flush.entries told.entries flush.calls flush.ticks ends
+      saved = λ zero. saved_by (plan_base plan) flushed flush.deed told.deed.entries ends
           (flushed_at_zero ended flushed (sym status_is ∙ zero));
-      no_failed_reply = λ quiet. none_failed told.course (link_faults link)
-          (link_faults link') flush.calls quiet did.asked.counted;
-      ends_well = λ quiet read written refused spent.
+      no_failed_reply = λ quiet. none_failed told.course a.faults c.faults flush.deed.calls quiet did.asked.counted;
+      ends_well = λ quiet unread unwritten refused spent.
           subst (λ (n : ℕ). (n ≡ 0) ⊎ ((n ≡ 12) ⊎ (n ≡ 11))) (sym status_is)
-          (ended_well (plan_base plan) ended flushed flush.entries told.calls flush.calls flush.ticks (link_faults link)
-          (link_faults link') ends quiet
-          did.asked.counted read_cause.rises write_cause.rises read written refused spent);
+          (ended_well (plan_base plan) ended flushed flush.deed told.deed.calls a.faults c.faults ends quiet
+          did.asked.counted read_cause.rises write_cause.rises unread unwritten refused spent);
     }

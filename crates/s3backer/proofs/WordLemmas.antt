@@ -5,13 +5,12 @@ use Rattle.std.proofs.Common.{sym, ◌∙◌, ap, arith, slice_index_or, if◌th
 use Rattle.std.specs.List.{list_any}
 use Rattle.s3backer.specs.Words.{Given, option_words, flag_words, is_option, AreWordsOf, IsPlan, plan_of}
 use Rattle.s3backer.specs.Words.{planned, shaped, sized, checked_names, prefix_or_empty, is_bad_prefix}
-use Rattle.s3backer.specs.Read.{TakesOption, TakesFlag, AreLast, ReadsWords, Answers}
+use Rattle.s3backer.specs.Read.{TakesOption, TakesFlag, AreLast, ReadsWords, Plans}
 use Rattle.s3backer.specs.Plans.{PlanParts}
 use Rattle.s3backer.specs.declared.words.Usage.{Usage}
 use Rattle.s3backer.specs.declared.words.Usage.TheVariants as usage
 use Rattle.s3backer.specs.declared.words.PlanFault.{PlanFault}
 use Rattle.s3backer.specs.declared.words.PlanFault.TheVariants as fault
-use Rattle.s3backer.specs.declared.words.TheConstants.{BLOCK_SIZE}
 use Rattle.sb_base.specs.declared.geometry.Geometry.{Geometry}
 use Rattle.sb_base.specs.declared.geometry.GeometryFault.{GeometryFault}
 use Rattle.sb_base.specs.declared.size.SizeFault.{SizeFault}
@@ -94,7 +93,7 @@ shaped_form (Ok geometry) refused = absurd (cc)
 shaped_form (Err fault) refused = absurd (cc)
 
 sized_form : (word : List ℕ) (size : Result ℕ SizeFault) → sized word size ≡ Err usage.NotBuilt → ⊥
-sized_form word (Ok bytes) refused = shaped_form (geometry_of bytes BLOCK_SIZE) refused
+sized_form word (Ok bytes) refused = shaped_form (geometry_of bytes 4096) refused
 sized_form word (Err fault) refused = absurd (cc)
 
 names_form : (prefix directory : List ℕ) (bad slash empty : Bool)
@@ -124,7 +123,7 @@ has_form given refused =
 -- what values answer, the words answer
 pub planned_words : (words : List (List ℕ)) (given : Given) (outcome : Result PlanParts PlanFault)
     → AreWordsOf words given
-    → Answers (plan_of given) outcome → IsPlan words outcome
+    → Plans (plan_of given) outcome → IsPlan words outcome
 planned_words words given (Ok plan) form answers = record { given = given; form = form; plan_is = answers }
 planned_words words given (Err (fault.Usage usage.NotBuilt)) form answers = absurd (has_form given answers)
 planned_words words given (Err (fault.Usage (usage.BadSize name word))) form answers =
@@ -137,4 +136,4 @@ planned_words words given (Err (fault.Usage usage.PrefixSlash)) form answers =
     record { given = given; form = form; fault_is = answers }
 planned_words words given (Err (fault.Usage (usage.BadBucket path))) form answers =
     record { given = given; form = form; fault_is = answers }
-planned_words words given (Err fault.Memory) form answers = tt
+planned_words words given (Err fault.Memory) form answers = record { given = given; form = form; owes = answers }

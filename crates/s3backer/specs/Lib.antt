@@ -1,5 +1,6 @@
 pub mod Plans
 pub mod Words
 pub mod Read
+pub mod Views
 pub mod Headline
 pub mod Fresh

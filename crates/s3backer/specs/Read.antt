@@ -2,7 +2,7 @@
 use Rattle.std.specs.Prelude.{ℕ, ◌≡◌, Bool, true, false, List, [], ◌∷◌, ◌++◌, codes, Option, Some, None, Result, Ok}
 use Rattle.std.specs.Prelude.{Err}
 use Rattle.std.specs.Option.{option_copied}
-use Rattle.s3backer.specs.Words.{Given, AreWordsOf, is_option}
+use Rattle.s3backer.specs.Words.{Given, AreWordsOf, is_option, TakesMemory, OwesMemory}
 use Rattle.s3backer.specs.declared.words.Usage.{Usage}
 use Rattle.s3backer.specs.declared.words.PlanFault.{PlanFault}
 use Rattle.s3backer.specs.declared.words.PlanFault.TheVariants as fault
@@ -45,11 +45,22 @@ abbrev pub ReadsWords : List (List ℕ) → Option Given → Type 0
 ReadsWords words None = (given : Given) → AreWordsOf words given → ⊥
 ReadsWords words (Some given) = AreWordsOf words given
 
--- a call answers this value or fault, or want of memory
+-- a refusal that takes memory is due
+abbrev pub RefusalNeedsMemory : {X : Type 0} → Result X Usage → Type 0
+RefusalNeedsMemory (Ok value) = ⊥
+RefusalNeedsMemory (Err fault) = TakesMemory fault
+
+-- a call answers this value or fault, or want of memory for telling the fault
 abbrev pub Answers : {X : Type 0} → Result X Usage → Result X PlanFault → Type 0
 Answers expected (Ok value) = expected ≡ Ok value
 Answers expected (Err (fault.Usage usage)) = expected ≡ Err usage
-Answers expected (Err fault.Memory) = Unit {0}
+Answers expected (Err fault.Memory) = RefusalNeedsMemory expected
+
+-- a call answers this plan or fault, or want of memory for it
+abbrev pub Plans : {X : Type 0} → Result X Usage → Result X PlanFault → Type 0
+Plans expected (Ok plan) = expected ≡ Ok plan
+Plans expected (Err (fault.Usage usage)) = expected ≡ Err usage
+Plans expected (Err fault.Memory) = OwesMemory expected
 
 -- a fault of words, or want of memory for telling it
 abbrev pub refused_as : {E : Type 0} → Result Usage E → PlanFault

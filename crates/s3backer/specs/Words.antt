@@ -13,8 +13,6 @@ use Rattle.s3backer.specs.declared.words.Usage.{Usage}
 use Rattle.s3backer.specs.declared.words.Usage.TheVariants as usage
 use Rattle.s3backer.specs.declared.words.PlanFault.{PlanFault}
 use Rattle.s3backer.specs.declared.words.PlanFault.TheVariants as fault
-use Rattle.s3backer.specs.declared.words.TheConstants.{BLOCK_SIZE}
-use Rattle.sb_names.specs.declared.names.TheConstants.{MAX_PREFIX}
 
 -- the values among words that are taken
 pub record Given : Type 0 where
@@ -55,9 +53,9 @@ is_odd byte =
     nat_lt byte 32 || nat_lt 126 byte || nat_eq byte 60 || nat_eq byte 62 || nat_eq byte 38 || nat_eq byte 34
     || nat_eq byte 39
 
--- a prefix is too long or has such a byte
+-- a prefix is longer than 200 bytes or has such a byte
 abbrev pub is_bad_prefix : List ℕ → Bool
-is_bad_prefix prefix = nat_lt MAX_PREFIX (length prefix) || list_any is_odd prefix
+is_bad_prefix prefix = nat_lt 200 (length prefix) || list_any is_odd prefix
 
 -- the prefix that is given, or none
 abbrev pub prefix_or_empty : Option (List ℕ) → List ℕ
@@ -77,9 +75,9 @@ abbrev pub shaped : Result Geometry GeometryFault → Result Geometry Usage
 shaped (Ok geometry) = Ok geometry
 shaped (Err fault) = Err (usage.Geometry fault)
 
--- the geometry of a disk whose size is this word, if it reads as so many bytes
+-- the geometry of a disk whose size is this word, if it reads as so many bytes, in blocks of 4,096
 abbrev pub sized : List ℕ → Result ℕ SizeFault → Result Geometry Usage
-sized word (Ok bytes) = shaped (geometry_of bytes BLOCK_SIZE)
+sized word (Ok bytes) = shaped (geometry_of bytes 4096)
 sized word (Err fault) = Err (usage.BadSize (codes "--size") word)
 
 -- the plan of a disk over a directory
@@ -116,8 +114,26 @@ abbrev pub IsRefused : List (List ℕ) → Usage → Type 0
 IsRefused words usage.NotBuilt = (given : Given) → AreWordsOf words given → ⊥
 IsRefused words fault = HasFault words fault
 
+-- telling why words are not taken takes memory: it tells one of them
+abbrev pub TakesMemory : Usage → Type 0
+TakesMemory (usage.BadSize name word) = Unit {0}
+TakesMemory (usage.BadPrefix prefix) = Unit {0}
+TakesMemory (usage.BadBucket path) = Unit {0}
+TakesMemory fault = ⊥
+
+-- a plan takes memory, and so do some refusals
+abbrev pub OwesMemory : {X : Type 0} → Result X Usage → Type 0
+OwesMemory (Ok plan) = Unit {0}
+OwesMemory (Err fault) = TakesMemory fault
+
+-- the answer to words takes memory
+pub record NeedsMemory (words : List (List ℕ)) : Type 0 where
+  pub given : Given
+  pub form : AreWordsOf words given
+  pub owes : OwesMemory (plan_of given)
+
 -- a plan of words
 abbrev pub IsPlan : List (List ℕ) → Result PlanParts PlanFault → Type 0
 IsPlan words (Ok plan) = IsTaken words plan
 IsPlan words (Err (fault.Usage usage)) = IsRefused words usage
-IsPlan words (Err fault.Memory) = Unit {0}
+IsPlan words (Err fault.Memory) = NeedsMemory words

@@ -151,6 +151,7 @@ impl HostWorld {
     fn links(&mut self, store: &StorePlan, count: u32) -> Result<Vec<HostLink>, MakeFault>
         ensures count { IfOk result (λ links. vec_len links ≡ count) }
         ensures cause { CountsFaults self.old.faults self.new.faults (IsErrOf result MakeFault.Store) }
+        ensures stays { (IsErrOf result MakeFault.Store → ⊥) → self.new.faults ≡ self.old.faults }
     {
         match open_links(self.rt, store, count) {
             Ok(links) => Ok(links),
@@ -216,7 +217,7 @@ impl World for HostWorld {
     }
 
     fn shut(&mut self, _bench: Bench<HostLink, HostClock, HostSource, HostSink>)
-        ensures { self.old.faults ≤ self.new.faults }
+        ensures { self.new.faults ≡ self.old.faults }
     {}
 
     fn say(&mut self, line: &[u8]) {

@@ -1,6 +1,7 @@
 //! The program in a world in memory, which tells all that is asked of it.
 
-ghost use Rattle.std.specs.Prelude.{◌≡◌, ◌∷◌, [], Some, true, IfOk, map, string_bytes};
+ghost use Rattle.std.specs.Prelude.{[], ◌∷◌, Some, None, true, IfOk, map, string_bytes};
+ghost use Rattle.sb_fakes.specs.Worlds.{next_of};
 ghost use Rattle.sb_fakes.specs.Told.{
   ticks_of,
   bytes_of,
@@ -11,6 +12,7 @@ ghost use Rattle.sb_fakes.specs.Told.{
   world_faults,
 };
 ghost use Rattle.s3backer.specs.Headline.{RunEnds};
+ghost use Rattle.s3backer.specs.Views.{world_of};
 
 use crate::top::run;
 use sb_fakes::{HandClock, MemoryConn, MemoryWorld, RecordTape};
@@ -37,11 +39,13 @@ pub fn rehearse<L: Link + Drop>(
     output: MemoryConn,
     errors: MemoryConn,
 ) -> Result<Rehearsal<L>, AllocError>
-    ensures { IfOk result (λ done. RunEnds L.log L.faults ticks_of bytes_of faults_of bytes_of faults_of
-        (map string_bytes words.now) 0 (world_faults done.world) (Some
-        (record { links = link ∷ []; clock = clock; input = input; output = output; errors = errors })) true
-        done.world.last (Some []) (asks_of done.world) (Some []) (entries_of done.tape)
-        (Some []) (said_of done.world) done.status) }
+    ensures { IfOk result (λ done. RunEnds
+        (record { log = L.log; link_faults = L.faults; ticks = ticks_of; left = bytes_of; read_faults = faults_of;
+          held = bytes_of; write_faults = faults_of }) (map string_bytes words.now)
+        (world_of (Some (record { links = link ∷ []; clock = clock; input = input; output = output; errors = errors }))
+        true None (Some []) (Some []) 0)
+        (world_of (next_of done.world.links.items done.world.clocks.items done.world.inputs.items done.world.sinks.items) true done.world.last (asks_of done.world) (said_of done.world)
+        (world_faults done.world)) (Some []) (entries_of done.tape) done.status) }
 {
     let mut links = Vec::new(alloc);
     links.push(link)?;

@@ -6,10 +6,10 @@ ghost use Rattle.sb_world.specs.Told.{Gains, Rose};
 ghost use Rattle.sb_base.specs.Shapes.{IsSound};
 ghost use Rattle.sb_core.specs.Represents.{geometry_of};
 ghost use Rattle.sb_crew.specs.Desks.{HasRoom};
-ghost use Rattle.sb_crew.specs.Outcomes.{IsOfNoRead};
 ghost use Rattle.sb_names.specs.declared.names.TheConstants.{MAX_PREFIX};
 ghost use Rattle.s3backer.specs.Fresh.{IsFresh};
 ghost use Rattle.s3backer.specs.Plans.{naming_of};
+ghost use Rattle.s3backer.specs.Views.{telling, gear_of, view_of, world_of};
 ghost use Rattle.s3backer.specs.Headline.{
   run_status,
   run_line,
@@ -31,7 +31,7 @@ use crate::words::{PlanFault, Usage, plan};
 use arrayvec::ArrayString;
 use sb_base::Geometry;
 use sb_core::Core;
-use sb_crew::{Alone, CallFault, Calls, Desk, DeskRefused, Names};
+use sb_crew::{Alone, Calls, Desk, DeskRefused, FlushFault, Names};
 use sb_laws::{sound_flushes, sound_is_legal, sound_survives_crash};
 use sb_session::{Buffer, SessionEnd, serve_alone};
 use sb_world::{Bench, Clock, Link, MakeFault, Meta, Sink, Source, Tape, World};
@@ -44,21 +44,28 @@ pub struct Outcome<T> {
     pub tape: T,
 }
 
+/// What serving a session leaves: the exit status, and what it was lent.
+#[derive(Drop)]
+struct Served<T, L, C> {
+    status: u8,
+    tape: T,
+    link: L,
+    clock: C,
+}
+
 /// The line that tells want of memory.
 const OUT_OF_MEMORY: &[u8] = b"s3backer: out of memory\n";
 
 /// The status of a session's end and of the flush after it: that of the first fault.
-fn status_of(end: SessionEnd, flushed: Result<(), CallFault>) -> u8
-    requires { IfErr flushed IsOfNoRead }
+fn status_of(end: SessionEnd, flushed: Result<(), FlushFault>) -> u8
     ensures { result ≡ run_status end flushed }
 {
     match end {
         SessionEnd::Disconnected | SessionEnd::Ended => match flushed {
             Ok(()) => 0,
-            Err(CallFault::StoreFault { status: _ }) => 3,
-            Err(CallFault::ClockStalled { .. }) => 11,
-            Err(CallFault::Memory) => 12,
-            Err(CallFault::StaleRead { .. }) => unreachable!(),
+            Err(FlushFault::StoreFault { status: _ }) => 3,
+            Err(FlushFault::ClockStalled { .. }) => 11,
+            Err(FlushFault::Memory) => 12,
         },
         SessionEnd::Refused | SessionEnd::ReadFault | SessionEnd::WriteFault | SessionEnd::Spent =>
             7,
@@ -66,8 +73,7 @@ fn status_of(end: SessionEnd, flushed: Result<(), CallFault>) -> u8
 }
 
 /// Writes the line of the first fault of a session and the flush after it, if there is one.
-fn complain_of<S: Sink>(errors: &mut S, end: SessionEnd, flushed: Result<(), CallFault>)
-    requires { IfErr flushed IsOfNoRead }
+fn complain_of<S: Sink>(errors: &mut S, end: SessionEnd, flushed: Result<(), FlushFault>)
     ensures { ComplainsOf (run_line end flushed) (S.held errors.old) (S.held errors.new) (S.faults errors.old)
         (S.faults errors.new) }
 {
@@ -81,20 +87,18 @@ fn complain_of<S: Sink>(errors: &mut S, end: SessionEnd, flushed: Result<(), Cal
 }
 
 /// Writes the line of a flush's fault, if it has one.
-fn complain_of_flush<S: Sink>(errors: &mut S, flushed: Result<(), CallFault>)
-    requires { IfErr flushed IsOfNoRead }
+fn complain_of_flush<S: Sink>(errors: &mut S, flushed: Result<(), FlushFault>)
     ensures { ComplainsOf (flush_line flushed) (S.held errors.old) (S.held errors.new) (S.faults errors.old)
         (S.faults errors.new) }
 {
     match flushed {
         Ok(()) => {}
-        Err(CallFault::StoreFault { status }) => complain(
+        Err(FlushFault::StoreFault { status }) => complain(
             errors,
             store_fault_line(status).as_str().as_bytes(),
         ),
-        Err(CallFault::ClockStalled { .. }) => complain(errors, b"s3backer: clock stands still\n"),
-        Err(CallFault::Memory) => complain(errors, OUT_OF_MEMORY),
-        Err(CallFault::StaleRead { .. }) => unreachable!(),
+        Err(FlushFault::ClockStalled { .. }) => complain(errors, b"s3backer: clock stands still\n"),
+        Err(FlushFault::Memory) => complain(errors, OUT_OF_MEMORY),
     }
 }
 
@@ -150,15 +154,16 @@ fn serve_disk<L: Link, C: Clock, R: Source, S: Sink, T: Tape>(
     input: &mut R,
     output: &mut S,
     errors: &mut S,
-) -> (u8, T, L, C)
+) -> Served<T, L, C>
     requires sound { IsSound plan.now.geometry }
     requires prefix { length plan.now.prefix ≤ MAX_PREFIX }
     requires fresh { IsFresh plan.now.geometry core }
     requires names { names ≡ naming_of plan.now }
     requires room { HasRoom plan.now.geometry desk }
-    ensures { ServesSession L.log L.faults C.ticks R.left R.faults S.held S.faults
-        plan.now desk.link result.2 desk.clock result.3 input.old input.new output.old output.new errors.old
-        errors.new (T.told tape) (T.told result.1) result.0 }
+    ensures { let view = view_of (telling L.Link C.Clock R.Source S.Sink) in
+        ServesSession plan.now
+        (view (gear_of desk.link desk.clock input.old output.old errors.old) (T.told tape))
+        (view (gear_of result.link result.clock input.new output.new errors.new) (T.told result.tape)) result.status }
 {
     sound_is_legal();
     sound_flushes();
@@ -169,7 +174,12 @@ fn serve_disk<L: Link, C: Clock, R: Source, S: Sink, T: Tape>(
     complain_of(errors, end, flushed);
     let (_core, tape) = disk.finish();
     let (link, clock) = desk.into_parts();
-    (status_of(end, flushed), tape, link, clock)
+    Served {
+        status: status_of(end, flushed),
+        tape,
+        link,
+        clock,
+    }
 }
 
 /// Serves a session with the parts of a bench.
@@ -182,26 +192,41 @@ fn serve_parts<L: Link + Drop, C: Clock + Drop, R: Source, S: Sink, T: Tape + Dr
     input: &mut R,
     output: &mut S,
     errors: &mut S,
-) -> (u8, T, L, C)
+) -> Served<T, L, C>
     requires sound { IsSound plan.now.geometry }
     requires prefix { length plan.now.prefix ≤ MAX_PREFIX }
-    ensures { Serves L.log L.faults C.ticks R.left R.faults S.held S.faults plan.now link result.2 clock result.3
-        input.old input.new output.old output.new errors.old errors.new (T.told tape) (T.told result.1) result.0 }
+    ensures { Serves (telling L.Link C.Clock R.Source S.Sink) plan.now
+        (gear_of link clock input.old output.old errors.old)
+        (gear_of result.link result.clock input.new output.new errors.new)
+        (T.told tape) (T.told result.tape) result.status }
 {
     let (core, buffer, names) = match make(alloc, plan) {
         Ok(made) => made,
         Err(_) => {
-            complain(errors, OUT_OF_MEMORY);
-            return (12, tape, link, clock);
+            return lacks_memory(errors, tape, link, clock);
         }
     };
     match Desk::new(alloc, link, clock, &plan.geometry) {
         Ok(desk) => serve_disk(plan, core, buffer, names, desk, tape, input, output, errors),
         Err(refused) => {
             let DeskRefused { link, clock } = refused;
-            complain(errors, OUT_OF_MEMORY);
-            (12, tape, link, clock)
+            lacks_memory(errors, tape, link, clock)
         }
+    }
+}
+
+/// Tells want of memory for a session.
+fn lacks_memory<T, L, C, S: Sink>(errors: &mut S, tape: T, link: L, clock: C) -> Served<T, L, C>
+    ensures complains { Complains (S.held errors.old) (S.held errors.new) (S.faults errors.old) (S.faults errors.new)
+        (codes "s3backer: out of memory\n") }
+    ensures lent { result ≡ record { status = 12; tape = tape; link = link; clock = clock } }
+{
+    complain(errors, OUT_OF_MEMORY);
+    Served {
+        status: 12,
+        tape,
+        link,
+        clock,
     }
 }
 
@@ -218,8 +243,8 @@ where
     requires sound { IsSound plan.now.geometry }
     requires prefix { length plan.now.prefix ≤ MAX_PREFIX }
     requires link { 0 < length bench.links }
-    ensures { ServesBench W.Link.log W.Link.faults W.Clock.ticks W.Source.left W.Source.faults W.Sink.held W.Sink.faults
-        plan.now bench result.2 (T.told tape) (T.told result.1) result.0 }
+    ensures { ServesBench (telling W.Link.Link W.Clock.Clock W.Source.Source W.Sink.Sink) plan.now bench result.2
+        (T.told tape) (T.told result.1) result.0 }
 {
     let Bench {
         mut links,
@@ -232,7 +257,12 @@ where
         Some(link) => link,
         None => unreachable!(),
     };
-    let (status, tape, link, clock) = serve_parts(
+    let Served {
+        status,
+        tape,
+        link,
+        clock,
+    } = serve_parts(
         alloc,
         plan,
         link,
@@ -271,10 +301,11 @@ pub fn run<W: World, T: Tape + Drop>(
 where
     W::Link: Drop,
     W::Clock: Drop,
-    ensures { RunEnds W.Link.log W.Link.faults W.Clock.ticks W.Source.left W.Source.faults W.Sink.held W.Sink.faults
-        (map string_bytes words.now) (W.faults world.old) (W.faults world.new) (W.next world.old) (W.tells world.old)
-        (W.last world.new) (W.asks world.old) (W.asks world.new) (T.told tape) (T.told result.tape) (W.said world.old)
-        (W.said world.new) result.status }
+    ensures { RunEnds (telling W.Link.Link W.Clock.Clock W.Source.Source W.Sink.Sink) (map string_bytes words.now)
+        (world_of (W.next world.old) (W.tells world.old) (W.last world.old) (W.asks world.old) (W.said world.old)
+        (W.faults world.old))
+        (world_of (W.next world.new) (W.tells world.new) (W.last world.new) (W.asks world.new) (W.said world.new)
+        (W.faults world.new)) (T.told tape) (T.told result.tape) result.status }
 {
     let plan = match plan(alloc, words) {
         Ok(plan) => plan,
@@ -308,6 +339,8 @@ where
 fn say_usage<W: World>(alloc: Global, world: &mut W, usage: &Usage)
     ensures says { SaysUsage (W.said world.old) (W.said world.new) }
     ensures asks { W.asks world.new ≡ W.asks world.old }
+    ensures last { W.last world.new ≡ W.last world.old }
+    ensures faults { W.faults world.new ≡ W.faults world.old }
 {
     match usage_line(alloc, usage) {
         Ok(line) => world.say(&line),

@@ -24,6 +24,7 @@ ghost use Rattle.s3backer.specs.Read.{
   AreLast,
   ReadsWords,
   Answers,
+  Plans,
   refused_as,
 };
 
@@ -157,7 +158,7 @@ fn is_option(word: &str) -> bool
 
 /// The plan by the values of the words.
 fn plan_of(alloc: Global, values: &Values<'_>) -> Result<Plan, PlanFault>
-    ensures plan { Answers (plan_of (given_of values.now)) result }
+    ensures plan { Plans (plan_of (given_of values.now)) result }
     ensures sound { IfOk result (λ plan. IsSound plan.geometry) }
     ensures prefix { IfOk result (λ plan. length plan.prefix ≤ MAX_PREFIX) }
 {

@@ -1,6 +1,6 @@
 //! A world in memory.
 
-ghost use Rattle.std.specs.Prelude.{◌≡◌, ◌≤◌, ◌<◌, Some, [], ◌∷◌, true, IfOk, take, vec_len};
+ghost use Rattle.std.specs.Prelude.{◌≡◌, ◌≤◌, ◌<◌, Some, None, [], ◌∷◌, true, IfOk, take, vec_len};
 ghost use Rattle.std.specs.Option.{option_copied};
 ghost use Rattle.sb_world.specs.Benches.{link_count};
 ghost use Rattle.sb_world.specs.Told.{Gains};
@@ -47,6 +47,7 @@ impl<L: Link + Drop> MemoryWorld<L> {
     ) -> MemoryWorld<L>
         ensures parts { (result.links ≡ links) × (result.clocks ≡ clocks) × (result.inputs ≡ inputs) ×
             (result.sinks ≡ sinks) }
+        ensures last { result.last ≡ None }
         ensures faults { result.faults ≡ 0 }
         ensures asks { result.asks ≡ Some [] }
         ensures said { told_list result.said.items result.said_whole ≡ Some [] }
@@ -170,7 +171,7 @@ impl<L: Link + Drop> World for MemoryWorld<L> {
 
     fn shut(&mut self, bench: MemoryBench<L>)
         ensures last { self.new.last ≡ Some bench }
-        ensures faults { self.old.faults ≤ self.new.faults }
+        ensures faults { self.new.faults ≡ self.old.faults }
         ensures frame { (self.new.asks ≡ self.old.asks) × (told_list self.new.said.items self.new.said_whole
             ≡ told_list self.old.said.items self.old.said_whole) }
     {

@@ -5,19 +5,19 @@ ghost use Rattle.sb_crew.specs.Answers.{fault_for};
 
 use crate::{SessionEnd, serve};
 use sb_base::{Geometry, Part, Settings};
-use sb_crew::{CallFault, Calls};
+use sb_crew::{CallFault, Calls, FlushFault};
 use sb_nbd::MAX_PAYLOAD;
 use sb_world::{LinkFault, ReadFault, Sink, Source, WriteFault};
 use std::alloc::{AllocError, Global};
 use std::test::Fail;
 
 /// The fault of a call whose request failed so.
-fn call_fault(fault: LinkFault) -> CallFault
+fn fault_for(fault: LinkFault) -> FlushFault
     ensures { result ≡ fault_for fault }
 {
     match fault {
-        LinkFault::Failed { status } => CallFault::StoreFault { status },
-        LinkFault::Memory => CallFault::Memory,
+        LinkFault::Failed { status } => FlushFault::StoreFault { status },
+        LinkFault::Memory => FlushFault::Memory,
     }
 }
 
@@ -51,11 +51,11 @@ impl Calls<()> for Bytes {
 
     ghost ready = { λ d k. vec_len d.kept ≡ d.geometry.block_size * d.geometry.blocks };
 
-    ghost did = { λ d k d' k' entries calls ticks. Unit {0} };
+    ghost did = { λ d k d' k' deed. Unit {0} };
 
     ghost did_nothing = { λ d k. tt };
 
-    ghost did_both = { λ d k d' k' d'' k'' xs ys us vs ss ts first second. tt };
+    ghost did_both = { λ d k d' k' d'' k'' x y first second. tt };
 
     fn geometry(&self) -> Geometry {
         self.geometry
@@ -63,7 +63,7 @@ impl Calls<()> for Bytes {
 
     fn read(&mut self, _desk: &mut (), part: Part, out: &mut [u8]) -> Result<(), CallFault> {
         match self.fault.take() {
-            Some(fault) => Err(call_fault(fault)),
+            Some(fault) => Err(CallFault::from(fault_for(fault))),
             None => {
                 let block_size = self.geometry.block_size as usize;
                 let at = block_size * part.block as usize + part.offset as usize;
@@ -75,7 +75,7 @@ impl Calls<()> for Bytes {
 
     fn write(&mut self, _desk: &mut (), part: Part, bytes: &[u8]) -> Result<(), CallFault> {
         match self.fault.take() {
-            Some(fault) => Err(call_fault(fault)),
+            Some(fault) => Err(CallFault::from(fault_for(fault))),
             None => {
                 let block_size = self.geometry.block_size as usize;
                 let at = block_size * part.block as usize + part.offset as usize;
@@ -85,9 +85,9 @@ impl Calls<()> for Bytes {
         }
     }
 
-    fn flush(&mut self, _desk: &mut ()) -> Result<(), CallFault> {
+    fn flush(&mut self, _desk: &mut ()) -> Result<(), FlushFault> {
         match self.fault.take() {
-            Some(fault) => Err(call_fault(fault)),
+            Some(fault) => Err(fault_for(fault)),
             None => Ok(()),
         }
     }

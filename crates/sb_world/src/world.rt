@@ -1,6 +1,6 @@
 //! What a program is given.
 
-ghost use Rattle.std.specs.Prelude.{◌≡◌, ◌≤◌, ℕ, Bool, List, [], ◌∷◌, Option, IfOk, IfSome, IsErrOf, length};
+ghost use Rattle.std.specs.Prelude.{◌≡◌, ℕ, Bool, List, [], ◌∷◌, Option, IfOk, IfSome, IsErrOf, length};
 ghost use Rattle.sb_world.specs.Told.{Gains, CountsFaults};
 ghost use Rattle.std.specs.Option.{option_copied};
 ghost use Rattle.sb_world.specs.Benches.{BenchParts, with_links, shut_bench, link_count, HasPauses};
@@ -96,20 +96,21 @@ pub trait World {
             (λ told. bench ≡ with_links (link_count (option_copied store.entry) links) told)) }
         ensures asks { Gains (asks self.old) (asks self.new) (ask.Bench (option_copied store.entry) links ∷ []) }
         ensures cause { CountsFaults (faults self.old) (faults self.new) (IsErrOf result MakeFault.Store) }
+        ensures stays { (IsErrOf result MakeFault.Store → ⊥) → faults self.new ≡ faults self.old }
         ensures frame { (tells self.new ≡ tells self.old) × (last self.new ≡ last self.old)
             × (said self.new ≡ said self.old) };
 
     /// Takes a bench back.
     fn shut(&mut self, bench: Bench<Self::Link, Self::Clock, Self::Source, Self::Sink>)
         ensures last { last self.new ≡ shut_bench (tells self.old) bench }
-        ensures faults { faults self.old ≤ faults self.new }
+        ensures faults { faults self.new ≡ faults self.old }
         ensures frame { (tells self.new ≡ tells self.old) × (asks self.new ≡ asks self.old)
             × (said self.new ≡ said self.old) };
 
-    /// Says a line on standard error. A fault of that is left unsaid.
+    /// Says a line on standard error. A fault of that is left unsaid, and isn't counted.
     fn say(&mut self, line: &[u8])
         ensures told { Gains (said self.old) (said self.new) (line.now ∷ []) }
-        ensures faults { faults self.old ≤ faults self.new }
+        ensures faults { faults self.new ≡ faults self.old }
         ensures frame { (tells self.new ≡ tells self.old) × (asks self.new ≡ asks self.old)
             × (last self.new ≡ last self.old) };
 }
