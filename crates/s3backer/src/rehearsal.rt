@@ -40,8 +40,15 @@ pub fn rehearse<L: Link + Drop>(
     errors: MemoryConn,
 ) -> Result<Rehearsal<L>, AllocError>
     ensures { IfOk result (λ done. RunEnds
-        (record { log = L.log; link_faults = L.faults; ticks = ticks_of; left = bytes_of; read_faults = faults_of;
-          held = bytes_of; write_faults = faults_of }) (map string_bytes words.now)
+        (record {
+          log = L.log;
+          link_faults = L.faults;
+          ticks = ticks_of;
+          left = bytes_of;
+          read_faults = faults_of;
+          held = bytes_of;
+          write_faults = faults_of;
+        }) (map string_bytes words.now)
         (world_of (Some (record { links = link ∷ []; clock = clock; input = input; output = output; errors = errors }))
         true None (Some []) (Some []) 0)
         (world_of (next_of done.world.links.items done.world.clocks.items done.world.inputs.items done.world.sinks.items) true done.world.last (asks_of done.world) (said_of done.world)

@@ -118,6 +118,39 @@ fn geometries_are_refused_by_their_first_fault(rt: HostRuntime) -> Result<(), Fa
 }
 
 #[test]
+fn geometry_faults_tell_their_numbers(rt: HostRuntime) -> Result<(), Fail> {
+    let texts: [(GeometryFault, &str); 5] = [
+        (
+            GeometryFault::BlockOutOfRange(256),
+            "block size 256 is not between 512 and 16777216",
+        ),
+        (
+            GeometryFault::NotPowerOfTwo(3000),
+            "block size 3000 is not a power of two",
+        ),
+        (GeometryFault::Empty, "the size is 0"),
+        (
+            GeometryFault::NotMultiple {
+                size: 65_537,
+                block_size: 4096,
+            },
+            "the size 65537 is not a multiple of the block size 4096",
+        ),
+        (
+            GeometryFault::TooMany {
+                blocks: 268_435_457,
+            },
+            "268435457 blocks are more than 268435456",
+        ),
+    ];
+    for (fault, text) in texts {
+        let told = format!(in rt.alloc(); "{fault}")?;
+        assert_eq!(rt; told.as_str(), text);
+    }
+    Ok(())
+}
+
+#[test]
 fn a_range_over_a_border_has_two_parts(rt: HostRuntime) -> Result<(), Fail> {
     let geometry = Geometry::make(65_536, 4096)?;
     let mut all = parts(&geometry, 2048, 4096);

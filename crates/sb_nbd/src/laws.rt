@@ -1,9 +1,34 @@
 //! Bytes are read as messages in one way.
 
 ghost use Rattle.std.specs.Prelude.{◌≡◌, ◌++◌, List, ℕ};
+ghost use Rattle.sb_nbd.specs.Numbers.{
+  read_type,
+  write_type,
+  disc_type,
+  flush_type,
+  eio,
+  enomem,
+  einval,
+  enospc,
+  export_name,
+  max_payload,
+};
 ghost use Rattle.sb_nbd.specs.Requests.{Request, IsRequest, request_bytes};
 ghost use Rattle.sb_nbd.specs.RequestReading.{IsCutRequest};
 ghost use Rattle.sb_nbd.specs.Options.{Option, IsOption, option_bytes};
+
+use crate::option::EXPORT_NAME;
+use crate::reply::{EINVAL, EIO, ENOMEM, ENOSPC};
+use crate::request::MAX_PAYLOAD;
+use crate::wanted::{DISC, FLUSH, READ, WRITE};
+
+/// The constants that callers name are the numbers of the definitions.
+pub fn constants_are_numbers()
+    ensures types { (READ ≡ read_type) × (WRITE ≡ write_type) × (DISC ≡ disc_type) × (FLUSH ≡ flush_type) }
+    ensures errors { (EIO ≡ eio) × (ENOMEM ≡ enomem) × (EINVAL ≡ einval) × (ENOSPC ≡ enospc) }
+    ensures option { EXPORT_NAME ≡ export_name }
+    ensures payload { MAX_PAYLOAD ≡ max_payload }
+{}
 
 /// No request's bytes begin another's.
 pub fn one_request()

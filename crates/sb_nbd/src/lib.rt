@@ -16,7 +16,7 @@ mod wanted;
 
 pub use end::NbdEnd;
 pub use greeting::{MAX_FLAGS, read_flags, write_export, write_greeting};
-pub use laws::{no_cut_request, one_option, one_request};
+pub use laws::{constants_are_numbers, no_cut_request, one_option, one_request};
 pub use option::{Asked, EXPORT_NAME, MAX_OPTION, OPTION_MAGIC, read_option};
 pub use reply::{EINVAL, EIO, ENOMEM, ENOSPC, REPLY_MAGIC, write_reply};
 pub use request::{MAX_PAYLOAD, REQUEST_MAGIC, read_request};

@@ -1,5 +1,5 @@
 -- Reading and writing ranges, part by part, and the replies.
-use Rattle.std.proofs.Common.{ℕ, ◌≡◌, ◌≤◌, ◌<◌, ◌+◌, ◌-◌, ◌∙◌, List, [], ◌∷◌, ◌++◌, length, take, drop, Ok, Err, sum_by}
+use Rattle.std.proofs.Common.{ℕ, ◌≡◌, ◌≤◌, ◌+◌, ◌-◌, ◌∙◌, List, [], ◌∷◌, ◌++◌, length, take, drop, Ok, Err, sum_by}
 use Rattle.std.proofs.Common.{Some, length-take, length-drop, append_assoc, append-nil, ap, sym, subst, refl, arith}
 use Rattle.std.proofs.Common.{inl, inr, None, ◌≢◌, Bool, nat_eq, if◌then◌else◌}
 use Rattle.std.proofs.lemmas.Bool.{ne_eqb, le-ltb}
@@ -19,7 +19,7 @@ use Rattle.sb_crew.specs.Answers.{call_fault}
 use Rattle.sb_crew.specs.declared.calls.CallFault.{CallFault}
 use Rattle.sb_crew.specs.declared.calls.FlushFault.{FlushFault}
 use Rattle.sb_crew.specs.Outcomes.{Outcome, ReadDone, WriteDone, outcomes_of, bytes_read, blocks_asked, IsBlockOf}
-use Rattle.sb_crew.specs.Outcomes.{AsksOnly, NoneFail, Meets, Stops, Does, ReadDoes, WriteDoes, FlushDoes, flush_of}
+use Rattle.sb_crew.specs.Outcomes.{AsksOnly, Meets, Stops, Does, ReadDoes, WriteDoes, FlushDoes, flush_of}
 use Rattle.sb_crew.proofs.OutcomeLemmas.{outcomes_join, bytes_join, asks_join, none_fail_join, cause_stays}
 use Rattle.sb_crew.proofs.OutcomeLemmas.{reaches_join, reaches_but_join}
 use Rattle.sb_session.specs.Goals.{refusal, parts_wanted, reads_of, writes_of, goal_of, body_of}

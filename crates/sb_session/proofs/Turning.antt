@@ -1,5 +1,5 @@
 -- What one request comes to.
-use Rattle.std.proofs.Common.{ℕ, ◌≡◌, ◌≢◌, List, [], ◌∷◌, ◌++◌, Option, Err, true, false, append-nil, sym, subst, refl}
+use Rattle.std.proofs.Common.{ℕ, ◌≡◌, ◌≢◌, List, [], ◌∷◌, Option, Err, true, false, append-nil, sym, subst, refl}
 use Rattle.std.proofs.Common.{arith}
 use Rattle.sb_world.specs.Streams.{Takes, Holds, WriteHolds}
 use Rattle.sb_nbd.specs.declared.end.NbdEnd.{NbdEnd}
@@ -9,8 +9,8 @@ use Rattle.sb_nbd.specs.RequestReading.{StopsRequest}
 use Rattle.sb_nbd.specs.Replies.{reply_bytes}
 use Rattle.sb_world.proofs.Streaming.{holds_nothing}
 use Rattle.sb_crew.specs.Bases.{Base}
-use Rattle.sb_crew.specs.Scenes.{Deed, nothing, followed}
-use Rattle.sb_session.specs.Streams.{Streams, Moves, streams_at}
+use Rattle.sb_crew.specs.Scenes.{Deed, nothing}
+use Rattle.sb_session.specs.Streams.{streams_at}
 use Rattle.sb_session.proofs.Joins.{followed-nothing}
 use Rattle.sb_session.specs.declared.end.SessionEnd.{SessionEnd}
 use Rattle.sb_session.specs.declared.end.SessionEnd.TheVariants.{Disconnected, WriteFault, Spent}

@@ -129,5 +129,8 @@ pub fn flushes<T: Tape>(
     ensures ready { IsReadyWith disk.new desk.new }
     ensures shape { geometry_of (core_of disk.new) ≡ GEOMETRY }
 {
-    disk.flush(desk)
+    match disk.flush(desk) {
+        Ok(()) => Ok(()),
+        Err(fault) => Err(CallFault::from(fault)),
+    }
 }

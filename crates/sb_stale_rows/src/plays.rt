@@ -201,7 +201,7 @@ impl<'a> Player<'a> {
         ensures shape { geometry_of (core_of disk.new) ≡ GEOMETRY }
     {
         if let Err(fault) = disk.flush(desk) {
-            self.counts.add(fault);
+            self.counts.add(CallFault::from(fault));
         }
     }
 

@@ -26,12 +26,15 @@ returns-in-Some-clause-did c =
       deed = deed_of (record { pass = 1; reading = 0; kind = kind.GetEnd c.args.part.block shown.Failed None false } ∷ [])
           (call.Get [] None (get.Fault c.in-Some.fault) ∷ []) [];
       done = tt;
-      ends = (record {
-        missing = ReadDone c.args.part ∷ [];
-        some = omega arith;
-        met = refl;
-        reached = reaches_by c.in-Some.fault c.from.result [] failed tt;
-        cause = fails_by base c.in-Some.fault c.from.result _ [] _ [] [] failed tt refl tt;
-      }, tt);
+      ends = (
+        record {
+          missing = ReadDone c.args.part ∷ [];
+          some = omega arith;
+          met = refl;
+          reached = reaches_by c.in-Some.fault c.from.result [] failed tt;
+          cause = fails_by base c.in-Some.fault c.from.result _ [] _ [] [] failed tt refl tt;
+        },
+        tt,
+      );
       asks = record { asked = tt };
     }
