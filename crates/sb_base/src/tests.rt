@@ -134,7 +134,7 @@ fn geometry_faults_tell_their_numbers(rt: HostRuntime) -> Result<(), Fail> {
                 size: 65_537,
                 block_size: 4096,
             },
-            "the size 65537 is not a multiple of the block size 4096",
+            "size 65537 is not a multiple of the block size 4096",
         ),
         (
             GeometryFault::TooMany {
