@@ -1,21 +1,28 @@
 -- The files of a list, as it is changed and listed.
-use Rattle.std.proofs.Common.{ℕ, zero, suc, ◌≡◌, ◌≢◌, ◌+◌, ◌<◌, ◌∙◌, true, false, not, List, [], ◌∷◌, ◌++◌}
+use Rattle.std.proofs.Common.{ℕ, zero, suc, ◌≡◌, ◌≢◌, ◌+◌, ◌<◌, ◌∙◌, true, false, not, Option, is_some, List, [], ◌∷◌, ◌++◌}
 use Rattle.std.proofs.Common.{length, take, get_or, Some, None, sym, ap, subst, refl, eqb, arith, inl, inr, ⊎_elim}
 use Rattle.std.proofs.Common.{cond}
 use Rattle.std.specs.Prelude.{◌⊎◌}
-use Rattle.std.specs.List.{filter, list_any, Contains, IsDistinct, AllByRecursion}
+use Rattle.std.specs.List.{filter, list_any, Contains, IsDistinct}
 use Rattle.std.specs.Option.{IsSome}
 use Rattle.std.specs.Cmp.Lexicographic.{pointwise, nat_list_eq_equiv}
 use Rattle.std.proofs.lemmas.List.{take_more}
-use Rattle.std.proofs.lemmas.List.Elements.{All-push, All-from_recursion, recursion_from_All}
+use Rattle.std.proofs.lemmas.List.Elements.{All-push, All-weaker, All-from_recursion, recursion_from_All}
 use Rattle.std.proofs.lemmas.List.Elements.{Contains-append_left, Contains-push}
 use Rattle.std.proofs.lemmas.List.Folds.{Any-from_list_any}
 use Rattle.std.proofs.lemmas.Map.Keys.{IsDistinct-push}
 use Rattle.std.proofs.lemmas.Slice.Eq.{bytes_eq-Decides}
-use Rattle.sb_world.specs.Folders.{Files, Becomes, SparesOthers, SparesOthersThan, HasNames}
-use Rattle.sb_fakes.specs.Objects.{bodies_of, is_other}
+use Rattle.sb_world.specs.Folders.{Files, Becomes, HasNames}
+use Rattle.sb_fakes.specs.Objects.{bodies_of, body_in, is_other, HasBody, SparesBodies}
+use Rattle.sb_fakes.specs.Folders.{Moves}
+use Rattle.sb_fakes.specs.Names.{IsListed, AreNames}
+use Rattle.sb_fakes.specs.declared.content.Content.{Content}
 use Rattle.sb_fakes.proofs.NameLemmas.{differs, agrees}
 use Rattle.sb_fakes.specs.declared.object.Object.{Object}
+
+is_some-mapped : (content : Option Content) → is_some (body_in content) ≡ is_some content
+is_some-mapped None = refl
+is_some-mapped (Some content) = refl
 
 some_none : {X : Type 0} {x : X} {P : Type 0} → Some x ≡ None → P
 some_none same = cc
@@ -27,7 +34,7 @@ some_false : {P : Type 0} → false ≡ true → P
 some_false same = cc
 
 -- no file of a name is left where those of the name were taken away
-pub bodies_of-taken : (name : List ℕ) (files : List Object) → bodies_of (filter (is_other name) files) name ≡ None
+pub bodies_of-taken : {X : Type 0} (name : List ℕ) (files : List (Object X)) → bodies_of (filter (is_other name) files) name ≡ None
 bodies_of-taken name [] = refl
 bodies_of-taken name (file ∷ files) =
     let rest = filter (is_other name) files in
@@ -39,7 +46,7 @@ bodies_of-taken name (file ∷ files) =
     ] refl
 
 -- the files of other names are left
-pub bodies_of-left : (name other : List ℕ) (files : List Object) → other ≢ name
+pub bodies_of-left : {X : Type 0} (name other : List ℕ) (files : List (Object X)) → other ≢ name
     → bodies_of (filter (is_other name) files) other ≡ bodies_of files other
 bodies_of-left name other [] apart = refl
 bodies_of-left name other (file ∷ files) apart =
@@ -55,57 +62,40 @@ bodies_of-left name other (file ∷ files) apart =
       | false ↦ λ is. ap (λ found. cond (pointwise eqb file.name other) (Some file.body) found) same
     ] refl
 
--- a file that is added where there was none of its name
-pub bodies_of-added : (file : Object) (files : List Object) → bodies_of files file.name ≡ None
-    → bodies_of (files ++ file ∷ []) file.name ≡ Some file.body
-bodies_of-added file [] none =
-    ap (λ t. cond t (Some file.body) None) (agrees file.name)
-bodies_of-added file (first ∷ files) none =
-    elim (pointwise eqb first.name file.name) as (λ t. cond t (Some first.body) (bodies_of files file.name) ≡ None
-    → cond t (Some first.body) (bodies_of (files ++ file ∷ []) file.name) ≡ Some file.body) [
-      | true ↦ λ is. some_none is
-      | false ↦ λ is. bodies_of-added file files is
-    ] none
-
--- a file that is added is no file of another name
-pub bodies_of-beside : (file : Object) (other : List ℕ) (files : List Object) → other ≢ file.name
-    → bodies_of (files ++ file ∷ []) other ≡ bodies_of files other
-bodies_of-beside file other [] apart =
-    ap (λ t. cond t (Some file.body) None) (differs file.name other (λ e. apart (sym e)))
-bodies_of-beside file other (first ∷ files) apart =
-    ap (λ found. cond (pointwise eqb first.name other) (Some first.body) found)
-    (bodies_of-beside file other files apart)
-
 -- the same lists as each step of a change leaves them: the files of a name taken away
-pub taken : (name : List ℕ) (files now : List Object) → now ≡ filter (is_other name) files
-    → (bodies_of now name ≡ None) × SparesOthers name (bodies_of files) (bodies_of now)
+pub taken : {X : Type 0} (name : List ℕ) (files now : List (Object X)) → now ≡ filter (is_other name) files
+    → (bodies_of now name ≡ None) × SparesBodies name (bodies_of files) (bodies_of now)
 taken name files now is = rw is (bodies_of-taken name files, λ other apart. bodies_of-left name other files apart)
 
--- a file put in the place of those of its name
-pub placed : (name body : List ℕ) (file : Object) (files kept now : List Object) → file.name ≡ name
-    → file.body ≡ body → kept ≡ filter (is_other name) files → now ≡ kept ++ file ∷ []
-    → (bodies_of now name ≡ Some body) × SparesOthers name (bodies_of files) (bodies_of now)
-placed name body file files kept now name_is body_is taken_is is =
-    let (none, others) = taken name files kept taken_is in
-    rw (is, ← name_is, ← body_is) (
-      bodies_of-added file kept (rw name_is none),
-      λ other apart. bodies_of-beside file other kept apart ∙ others other (λ e. apart (e ∙ sym name_is)),
-    )
+-- a file put in front of those of its name
+pub placed : {X : Type 0} (name : List ℕ) (body : X) (files now : List (Object X))
+    → now ≡ record { name = name; body = body } ∷ files → HasBody name body (bodies_of files) (bodies_of now)
+placed name body files now is = rw is (
+  ap (λ t. cond t (Some body) (bodies_of files name)) (agrees name),
+  λ other apart.
+      ap (λ t. cond t (Some body) (bodies_of files other)) (differs name other (λ e. apart (sym e))),
+)
 
--- a file put under another name, and then those of its first name taken away
-pub moved : (from to body : List ℕ) (files with now : List Object) → bodies_of files from ≡ Some body
-    → (bodies_of with to ≡ Some body) × SparesOthers to (bodies_of files) (bodies_of with) → from ≢ to
-    → now ≡ filter (is_other from) with
-    → IsSome (bodies_of files from) × (bodies_of now to ≡ bodies_of files from)
-    × (from ≢ to → bodies_of now from ≡ None)
-    × SparesOthersThan from to (bodies_of files) (bodies_of now)
-moved from to body files with now there put apart is =
-    let (none, others) = taken from with now is in (
-      rw there refl,
-      others to (λ e. apart (sym e)) ∙ put.0 ∙ sym there,
-      λ _. none,
-      λ other not_from not_to. others other not_from ∙ put.1 other not_to,
-    )
+-- bytes put under a name, and then the files of another name taken away
+pub moved : (from to body : List ℕ) (files with now : List (Object (List ℕ)))
+    → HasBody to body (bodies_of files) (bodies_of with) → from ≢ to → now ≡ filter (is_other from) with
+    → Moves from to body (bodies_of files) (bodies_of now)
+moved from to body files with now put apart is =
+    let (none, others) = taken from with now is in record {
+      moved = others to (λ e. apart (sym e)) ∙ put.0;
+      gone = λ _. none;
+      others = λ other not_from not_to. others other not_from ∙ put.1 other not_to;
+    }
+
+-- bytes put under the name that they had
+pub stayed : (from to body : List ℕ) (files now : List (Object (List ℕ)))
+    → HasBody to body (bodies_of files) (bodies_of now) → from ≡ to
+    → Moves from to body (bodies_of files) (bodies_of now)
+stayed from to body files now put same = record {
+  moved = put.0;
+  gone = λ apart. absurd (apart same);
+  others = λ other not_from not_to. put.1 other not_to;
+}
 
 -- files that are told, and were
 pub becomes : {change : Files → Files → Type 0} (old now : Files) → change old now
@@ -115,8 +105,8 @@ becomes {change} old now changed = record {
 }
 
 -- each file of a list has a name that the list has
-pub bodies_of-at : (files : List Object) (i : ℕ) (file : Object) → i < length files → file ≡ get_or files i file
-    → IsSome (bodies_of files file.name)
+pub bodies_of-at : {X : Type 0} (files : List (Object X)) (i : ℕ) (file : Object X) → i < length files
+    → file ≡ get_or files i file → IsSome (bodies_of files file.name)
 bodies_of-at [] i file within is = elim within [ ]
 bodies_of-at (first ∷ files) zero file within is =
     let same : pointwise eqb first.name file.name ≡ true = rw is (agrees first.name) in
@@ -129,11 +119,11 @@ bodies_of-at (first ∷ files) (suc i) file within is =
     ]
 
 -- a name with one more file
-bodies_of-cases : (file : Object) (name : List ℕ) (files : List Object) → IsSome (bodies_of (files ++ file ∷ []) name)
+bodies_of-cases : {X : Type 0} (file : Object X) (name : List ℕ) (files : List (Object X)) → IsSome (bodies_of (files ++ file ∷ []) name)
     → IsSome (bodies_of files name) ⊎ (file.name ≡ name)
-bodies_of-cases file name [] there =
+bodies_of-cases {X} file name [] there =
     elim (pointwise eqb file.name name) as (λ t. pointwise eqb file.name name ≡ t
-    → IsSome (cond t (Some file.body) None) → IsSome (bodies_of [] name) ⊎ (file.name ≡ name)) [
+    → IsSome (cond t (Some file.body) None) → IsSome (bodies_of {X = X} [] name) ⊎ (file.name ≡ name)) [
       | true ↦ λ is some. inr ((bytes_eq-Decides file.name name).0 is)
       | false ↦ λ is some. some_false some
     ] refl there
@@ -145,14 +135,8 @@ bodies_of-cases file name (first ∷ files) there =
       | false ↦ λ some. bodies_of-cases file name files some
     ] there
 
--- the names of a front of some files
-pub record IsListed (names : List (List ℕ)) (front files : List Object) : Type 0 where
-  pub each : AllByRecursion (λ name. IsSome (bodies_of files name)) names
-  pub all : (name : List ℕ) → IsSome (bodies_of front name) → Contains names name
-  pub once : IsDistinct (pointwise eqb) names
-
 -- no name of no file
-pub IsListed-none : (files : List Object) → IsListed [] [] files
+pub IsListed-none : {X : Type 0} (files : List (Object X)) → IsListed [] [] files
 unfolding IsDistinct
 IsListed-none files = record { each = tt; all = λ name some. some_false some; once = tt }
 
@@ -164,20 +148,20 @@ among names name some =
     subst (λ (x : List ℕ). Contains names x) (sym is) (k, within, at)
 
 -- the names that a front with one more file has
-more_names : (names : List (List ℕ)) (files : List Object) (i : ℕ) (file : Object) → i < length files
+more_names : {X : Type 0} (names : List (List ℕ)) (files : List (Object X)) (i : ℕ) (file : Object X) → i < length files
     → file ≡ get_or files i file
     → ((name : List ℕ) → IsSome (bodies_of (take i files) name) → Contains names name) → Contains names file.name
     → (name : List ℕ) → IsSome (bodies_of (take (i + 1) files) name) → Contains names name
-more_names names files i file within is before here name some =
+more_names {X} names files i file within is before here name some =
     let longer : take (i + 1) files ≡ take i files ++ file ∷ [] =
     take_more files i file within ∙ ap (λ x. take i files ++ x ∷ []) (sym is) in
     let there : IsSome (bodies_of (take i files ++ file ∷ []) name) =
-    subst (λ (front : List Object). IsSome (bodies_of front name)) longer some in
+    subst (λ (front : List (Object X)). IsSome (bodies_of front name)) longer some in
     ⊎_elim (before name) (λ same. subst (λ (x : List ℕ). Contains names x) same here)
     (bodies_of-cases file name (take i files) there)
 
 -- one more file, whose name is listed
-pub IsListed-more : (names : List (List ℕ)) (files : List Object) (i : ℕ) (file : Object) → i < length files
+pub IsListed-more : {X : Type 0} (names : List (List ℕ)) (files : List (Object X)) (i : ℕ) (file : Object X) → i < length files
     → file ≡ get_or files i file → list_any (pointwise eqb file.name) names ≡ true
     → IsListed names (take i files) files → IsListed names (take (i + 1) files) files
 IsListed-more names files i file within is some listed = record {
@@ -187,7 +171,7 @@ IsListed-more names files i file within is some listed = record {
 }
 
 -- one more file, whose name is added
-pub IsListed-push : (names : List (List ℕ)) (files : List Object) (i : ℕ) (file : Object) → i < length files
+pub IsListed-push : {X : Type 0} (names : List (List ℕ)) (files : List (Object X)) (i : ℕ) (file : Object X) → i < length files
     → file ≡ get_or files i file → list_any (pointwise eqb file.name) names ≡ false
     → IsListed names (take i files) files → IsListed (names ++ file.name ∷ []) (take (i + 1) files) files
 IsListed-push names files i file within is none listed =
@@ -201,7 +185,19 @@ IsListed-push names files i file within is none listed =
       once = IsDistinct-push nat_list_eq_equiv names file.name listed.once none;
     }
 
--- all files are listed
-pub IsListed-all : (names : List (List ℕ)) (files : List Object) → IsListed names files files
+-- the names of all files of a folder
+pub HasNames-files : (names : List (List ℕ)) (files : List (Object (List ℕ))) → AreNames names files
     → HasNames names (bodies_of files)
-IsListed-all names files listed = record { each = listed.each; all = listed.all; once = listed.once }
+HasNames-files names files listed = record { each = listed.each; all = listed.all; once = listed.once }
+
+-- the names of all objects of a store
+pub HasNames-contents : (names : List (List ℕ)) (objects : List (Object Content)) → AreNames names objects
+    → HasNames names (λ name. body_in (bodies_of objects name))
+HasNames-contents names objects listed = record {
+  each = recursion_from_All (λ name. IsSome (body_in (bodies_of objects name))) names
+      (All-weaker (λ name. IsSome (bodies_of objects name)) (λ name. IsSome (body_in (bodies_of objects name)))
+      (λ name there. is_some-mapped (bodies_of objects name) ∙ there) names
+      (All-from_recursion (λ name. IsSome (bodies_of objects name)) names listed.each));
+  all = λ name there. listed.all name (sym (is_some-mapped (bodies_of objects name)) ∙ there);
+  once = listed.once;
+}

@@ -1,8 +1,49 @@
--- Which calls of a fake are to fail.
-use Rattle.std.specs.Prelude.{◌+◌, ◌-◌, ◌^◌, min, Bool, nat_eq}
+-- Which calls of a fake are to fail, and how its faults are counted.
+use Rattle.std.specs.Prelude.{ℕ, ◌+◌, ◌-◌, ◌^◌, min, Bool, true, false, nat_eq, Result, Ok, Err}
 use Rattle.std.specs.List.{list_any}
+use Rattle.sb_world.specs.declared.link.LinkFault.{LinkFault}
+use Rattle.sb_world.specs.declared.link.LinkFault.TheVariants as fault
+use Rattle.sb_world.specs.declared.folder.FolderFault.{FolderFault}
+use Rattle.sb_world.specs.declared.folder.FolderFault.TheVariants as folder
+use Rattle.sb_world.specs.declared.world.MakeFault.{MakeFault}
+use Rattle.sb_world.specs.declared.world.MakeFault.TheVariants as make
 use Rattle.sb_fakes.specs.declared.faults.Faults.{Faults}
+
+-- a count with one more, at most the greatest u64
+abbrev pub one_more : ℕ → ℕ
+one_more count = min (count + 1) (2 ^ 64 - 1)
+
+-- a count of faults after a call, one more where it failed so
+abbrev pub counted : Bool → ℕ → ℕ
+counted true count = one_more count
+counted false count = count
+
+-- the calls and faults after one more call, which failed so or not
+abbrev pub answered : Bool → Faults → Faults
+answered failed faults = record {
+  planned = faults.planned;
+  calls = one_more faults.calls;
+  count = counted failed faults.count;
+}
 
 -- the next call is among those that are to fail
 abbrev pub fails_next : Faults → Bool
-fails_next faults = list_any (λ call. nat_eq call (min (faults.calls + 1) (2 ^ 64 - 1))) faults.planned.items
+fails_next faults = list_any (λ call. nat_eq call (one_more faults.calls)) faults.planned.items
+
+-- a request failed for another cause than memory
+abbrev pub has_failed : {T : Type 0} → Result T LinkFault → Bool
+has_failed (Ok value) = false
+has_failed (Err (fault.Failed status)) = true
+has_failed (Err fault.Memory) = false
+
+-- a folder's call failed for another cause than memory
+abbrev pub folder_failed : {T : Type 0} → Result T FolderFault → Bool
+folder_failed (Ok value) = false
+folder_failed (Err folder.Failed) = true
+folder_failed (Err folder.Memory) = false
+
+-- a bench wasn't made for another cause than memory
+abbrev pub make_failed : {T : Type 0} → Result T MakeFault → Bool
+make_failed (Ok bench) = false
+make_failed (Err make.Store) = true
+make_failed (Err make.Memory) = false

@@ -1,5 +1,9 @@
 -- What the worlds in memory tell.
-use Rattle.std.specs.Prelude.{ℕ, List, Option, Some, drop}
+use Rattle.std.specs.Prelude.{ℕ, ◌≡◌, Bool, true, false, ◌&&◌, nat_le, nat_lt, List, length, Option, Some, drop}
+use Rattle.std.specs.Prelude.{Result, Ok, Err}
+use Rattle.sb_world.specs.Benches.{BenchParts}
+use Rattle.sb_world.specs.declared.world.MakeFault.{MakeFault}
+use Rattle.sb_world.specs.declared.world.MakeFault.TheVariants as fault
 use Rattle.sb_base.specs.declared.entry.Entry.{Entry}
 use Rattle.sb_world.specs.declared.clock.Tick.{Tick}
 use Rattle.sb_world.specs.declared.world.Ask.{Ask}
@@ -7,7 +11,7 @@ use Rattle.sb_fakes.specs.declared.clock.HandClock.{HandClock}
 use Rattle.sb_fakes.specs.declared.conn.MemoryConn.{MemoryConn}
 use Rattle.sb_fakes.specs.declared.tape.RecordTape.{RecordTape}
 use Rattle.sb_fakes.specs.declared.world.MemoryWorld.{MemoryWorld}
-use Rattle.sb_fakes.specs.Worlds.{told_list}
+use Rattle.sb_fakes.specs.Worlds.{next_of, told_list}
 
 -- the readings and pauses of a clock
 abbrev pub ticks_of : HandClock → Option (List Tick)
@@ -35,3 +39,29 @@ said_of world = told_list world.said.items world.said_whole
 
 abbrev pub world_faults : {L : Type 0} → MemoryWorld L → ℕ
 world_faults world = world.faults
+
+-- what the next bench of a world is made of
+abbrev pub next_parts : {L : Type 0} → MemoryWorld L → Option (BenchParts L HandClock MemoryConn MemoryConn)
+next_parts world = next_of world.links.items world.clocks.items world.inputs.items world.sinks.items
+
+-- a world has the parts of a bench with so many links
+abbrev pub has_parts : {L : Type 0} → ℕ → MemoryWorld L → Bool
+has_parts links world = nat_le links (length world.links.items) && nat_lt 0 (length world.clocks.items)
+    && nat_lt 0 (length world.inputs.items) && nat_le 2 (length world.sinks.items)
+
+-- the parts of a world but for the first of each: so many links and clocks, inputs and sinks
+pub record LeavesParts {L : Type 0} (links one two : ℕ) (old now : MemoryWorld L) : Type 0 where
+  pub links_left : now.links.items ≡ drop links old.links.items
+  pub clocks_left : now.clocks.items ≡ drop one old.clocks.items
+  pub inputs_left : now.inputs.items ≡ drop one old.inputs.items
+  pub sinks_left : now.sinks.items ≡ drop two old.sinks.items
+
+-- the parts of a world stay
+abbrev pub KeepsParts : {L : Type 0} → MemoryWorld L → MemoryWorld L → Type 0
+KeepsParts old now = LeavesParts 0 0 0 old now
+
+-- a bench takes its parts; a part is missing just where there are too few, and then all stay, as without memory
+abbrev pub Hands : {L B : Type 0} → ℕ → Result B MakeFault → MemoryWorld L → MemoryWorld L → Type 0
+Hands links (Ok bench) old now = (has_parts links old ≡ true) × LeavesParts links 1 2 old now
+Hands links (Err fault.Store) old now = (has_parts links old ≡ false) × KeepsParts old now
+Hands links (Err fault.Memory) old now = (has_parts links old ≡ true) × KeepsParts old now

@@ -1,12 +1,15 @@
 -- The versions of the objects of a store in memory.
 use Rattle.std.specs.Prelude.{ℕ, zero, suc, ◌≡◌, ◌≢◌, ◌+◌, Bool, List, [], ◌∷◌, ◌++◌, length, Option, Some, None}
-use Rattle.std.specs.Prelude.{◌-◌, ◌^◌, min, true, false, Result, Ok, Err, if◌then◌else◌, nat_eq, nat_le}
-use Rattle.std.specs.Prelude.{slice_index_or}
+use Rattle.std.specs.Prelude.{true, false, Result, Ok, Err, if◌then◌else◌, nat_eq, nat_le}
+use Rattle.std.specs.Prelude.{slice_index_or, slice_get}
+use Rattle.std.specs.Option.{option_map}
 use Rattle.std.specs.Cmp.Lexicographic.{pointwise}
 use Rattle.sb_world.specs.declared.link.Got.{Got}
 use Rattle.sb_world.specs.declared.link.LinkFault.{LinkFault}
 use Rattle.sb_world.specs.declared.link.LinkFault.TheVariants.{Failed, Memory}
-use Rattle.sb_fakes.specs.Objects.{bodies_of, Shows}
+use Rattle.sb_world.specs.declared.link.HeadText.{HeadText}
+use Rattle.sb_fakes.specs.Objects.{bodies_of, body_in, no_texts, texts_of, Shows, Heads}
+use Rattle.sb_fakes.specs.Failing.{one_more}
 use Rattle.sb_fakes.specs.declared.timed.Show.{Show}
 use Rattle.sb_fakes.specs.declared.timed.TimedStore.{TimedStore}
 use Rattle.sb_fakes.specs.declared.content.Content.{Content}
@@ -47,11 +50,6 @@ AddsVersion name content ended old now =
 abbrev pub SparesAllVersions : (List ℕ → Versions) → (List ℕ → Versions) → Type 0
 SparesAllVersions old now = (name : List ℕ) → now name ≡ old name
 
--- what an object is at a version
-abbrev pub body_in : Option Content → Option (List ℕ)
-body_in None = None
-body_in (Some content) = Some content.body
-
 -- what an object is at the version of a number, 0 for its start
 abbrev pub body_at : Option (List ℕ) → List (Option Content) → ℕ → Option (List ℕ)
 body_at start kept zero = start
@@ -76,12 +74,50 @@ chosen_of (show ∷ shows) get = if nat_eq show.get get then Some show.version e
 abbrev pub shown_version : TimedStore → List ℕ → Option (List ℕ)
 shown_version store name =
     body_shown (bodies_of store.start.items name) (versions_of store.histories.items name)
-    (chosen_of store.shows.items (min (store.gets + 1) (2 ^ 64 - 1)))
+    (chosen_of store.shows.items (one_more store.gets))
 
 -- a GET that is to fail has status 503, and any other shows just what the object is
-abbrev pub Answers : Bool → Option (List ℕ) → Result Got LinkFault → List ℕ → Type 0
-Answers true body result out = result ≡ Err (Failed 503)
-Answers false body result out = Shows body result out
+abbrev pub Answers : Bool → Option (List ℕ) → Option (List ℕ) → Result Got LinkFault → List ℕ → Type 0
+Answers true verify body result out = result ≡ Err (Failed 503)
+Answers false verify body result out = Shows verify body result out
+
+-- the newest version that ended ok, unless that is the start
+abbrev pub newest_in : ℕ → List (Option Content) → Option (Option Content)
+newest_in zero kept = None
+newest_in (suc number) kept = slice_get kept number
+
+abbrev pub newest_of : Versions → Option (Option Content)
+newest_of versions = newest_in versions.newest versions.kept
+
+-- the texts of an object's newest version, from the start's body and the newest version behind it
+abbrev pub texts_shown : Option (List ℕ) → Option (Option Content) → Option HeadText
+texts_shown start None = option_map (λ body. no_texts) start
+texts_shown start (Some content) = option_map (λ kept. texts_of kept.meta) content
+
+-- the texts of the newest version of a name
+abbrev pub newest_texts : TimedStore → List ℕ → Option HeadText
+newest_texts store name =
+    texts_shown (bodies_of store.start.items name) (newest_of (versions_of store.histories.items name))
+
+-- a HEAD that is to fail has status 503, and any other finds just these texts
+abbrev pub HeadAnswers : Bool → Option HeadText → Result (Option HeadText) LinkFault → Type 0
+HeadAnswers true texts result = result ≡ Err (Failed 503)
+HeadAnswers false texts result = Heads texts result
+
+-- a listing that is to fail has status 503, and any other may lack memory alone
+abbrev pub ListAnswers : Bool → Result Bool LinkFault → Type 0
+ListAnswers true result = result ≡ Err (Failed 503)
+ListAnswers false (Ok more) = Unit {0}
+ListAnswers false (Err (Failed status)) = ⊥
+ListAnswers false (Err Memory) = Unit {0}
+
+-- what a store began with, and what is chosen for its GETs, stay
+abbrev pub KeepsChoices : TimedStore → TimedStore → Type 0
+KeepsChoices old now = (now.start ≡ old.start) × (now.shows ≡ old.shows)
+
+-- no object is changed, and what is chosen stays
+abbrev pub KeepsObjects : TimedStore → TimedStore → Type 0
+KeepsObjects old now = KeepsChoices old now × (now.histories ≡ old.histories)
 
 -- a put or a delete adds a version, which ended ok where the call is not to fail; without memory it adds none
 abbrev pub Changes : {E : Type 0} → Bool → List ℕ → Option Content → Result E LinkFault → (List ℕ → Versions)

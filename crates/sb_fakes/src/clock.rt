@@ -1,6 +1,8 @@
 //! A clock that its pauses move.
 
-ghost use Rattle.std.specs.Prelude.{◌≡◌, ◌≤◌, ◌^◌, Some, None, [], reverse, MatchOption};
+ghost use Rattle.std.specs.Prelude.{◌≡◌, ◌≤◌, ◌^◌, Some, None, [], ◌∷◌, reverse, MatchOption};
+ghost use Rattle.sb_world.specs.Told.{Gains};
+ghost use Rattle.sb_world.specs.declared.clock.Tick.TheVariants.{Taken, Paused};
 
 use crate::kept::Kept;
 use sb_world::{Clock, Tick};
@@ -54,24 +56,45 @@ impl HandClock {
 }
 
 impl Clock for HandClock {
+    ghost use Rattle.sb_fakes.specs.Clocks.{IsStill, IsMoved, paused};
+
     ghost ticks = { λ clock. clock.ticks };
 
     ghost moments = { λ clock. clock.moments };
 
     ghost latest = { λ clock. clock.latest };
 
-    fn now(&mut self) -> u64 {
+    fn now(&mut self) -> u64
+        ensures limit { result ≤ 2 ^ 62 }
+        ensures later { self.old.latest ≤ result }
+        ensures latest { self.new.latest ≡ result }
+        ensures told { Gains self.old.ticks self.new.ticks (Taken result ∷ []) }
+        ensures moments { self.new.moments ≡ self.old.moments }
+        ensures reading { result ≡ self.old.reading }
+        ensures stays { IsStill self.old self.new }
+    {
         self.latest = self.reading;
         self.ticks.add(Tick::Taken(self.reading));
         self.reading
     }
 
-    fn moment(&mut self) -> i64 {
+    fn moment(&mut self) -> i64
+        ensures latest { self.new.latest ≡ self.old.latest }
+        ensures told { Gains self.old.moments self.new.moments (result ∷ []) }
+        ensures ticks { self.new.ticks ≡ self.old.ticks }
+        ensures moment { result ≡ self.old.moment }
+        ensures stays { IsStill self.old self.new }
+    {
         self.moments.add(self.moment);
         self.moment
     }
 
-    fn pause(&mut self, millis: u64) {
+    fn pause(&mut self, millis: u64)
+        ensures latest { self.new.latest ≡ self.old.latest }
+        ensures told { Gains self.old.ticks self.new.ticks (Paused millis ∷ []) }
+        ensures moments { self.new.moments ≡ self.old.moments }
+        ensures moved { IsMoved (paused self.old millis) self.old self.new }
+    {
         if !self.stalled {
             self.reading = self.reading.saturating_add(millis).min(LAST_READING);
         }

@@ -1,6 +1,10 @@
 //! One end of a connection in memory.
 
-ghost use Rattle.std.specs.Prelude.{◌≡◌, ◌≢◌, ◌≤◌, ◌<◌, Some, [], drop, length, vec_len};
+ghost use Rattle.std.specs.Prelude.{◌≡◌, ◌≢◌, ◌≤◌, ◌<◌, Some, [], drop, length, vec_len, true, IsErr};
+ghost use Rattle.std.specs.Result.{is_err};
+ghost use Rattle.sb_world.specs.Told.{CountsFaults};
+ghost use Rattle.sb_world.specs.Streams.{ReadTakes, WriteHolds};
+ghost use Rattle.sb_fakes.specs.Failing.{fails_next, answered};
 
 use crate::faults::Faults;
 use sb_base::Text;
@@ -59,8 +63,15 @@ impl Source for MemoryConn {
 
     ghost faults = { λ conn. conn.faults.count };
 
-    fn read(&mut self, out: &mut [u8]) -> Result<usize, ReadFault> {
+    fn read(&mut self, out: &mut [u8]) -> Result<usize, ReadFault>
+        ensures length { length out.new ≡ length out.old }
+        ensures told { ReadTakes (Some (drop self.old.at self.old.bytes.items)) (Some (drop self.new.at self.new.bytes.items)) result out.new }
+        ensures cause { CountsFaults self.old.faults.count self.new.faults.count (IsErr result) }
+        ensures planned { is_err result ≡ fails_next self.old.faults }
+        ensures faults { self.new.faults ≡ answered (is_err result) self.old.faults }
+    {
         if self.faults.next_call_fails() {
+            self.faults.add();
             return Err(ReadFault::Failed);
         }
         let left = self.bytes();
@@ -76,11 +87,14 @@ impl Sink for MemoryConn {
 
     ghost faults = { λ conn. conn.faults.count };
 
-    fn write(&mut self, bytes: &[u8]) -> Result<(), WriteFault> {
-        if self.faults.next_call_fails() {
-            return Err(WriteFault::Failed);
-        }
-        if self.bytes.extend_from_slice(bytes).is_err() {
+    fn write(&mut self, bytes: &[u8]) -> Result<(), WriteFault>
+        ensures told { WriteHolds (Some (drop self.old.at self.old.bytes.items)) (Some (drop self.new.at self.new.bytes.items)) result bytes.now }
+        ensures cause { CountsFaults self.old.faults.count self.new.faults.count (IsErr result) }
+        ensures planned { fails_next self.old.faults ≡ true → IsErr result }
+        ensures faults { self.new.faults ≡ answered (is_err result) self.old.faults }
+        ensures none { IsErr result → drop self.new.at self.new.bytes.items ≡ drop self.old.at self.old.bytes.items }
+    {
+        if self.faults.next_call_fails() || self.bytes.extend_from_slice(bytes).is_err() {
             self.faults.add();
             return Err(WriteFault::Failed);
         }

@@ -1,15 +1,15 @@
 //! What a store in memory keeps of an object.
 
-ghost use Rattle.std.specs.Prelude.{◌≡◌, IfOk};
+ghost use Rattle.std.specs.Prelude.{◌≡◌, IfOk, Some, length, decimal};
 ghost use Rattle.std.specs.Option.{option_copied};
-ghost use Rattle.sb_fakes.specs.Objects.{Shows};
+ghost use Rattle.md5.specs.Md5.{md5};
+ghost use Rattle.sb_fakes.specs.Objects as objects;
+ghost use Rattle.sb_fakes.specs.Objects.{Shows, texts_of};
 
-use sb_base::Text;
+use md5::Md5;
+use sb_base::{Digest, Text};
 use sb_world::{Got, HeadText, LinkFault, Meta};
 use std::alloc::{AllocError, Global};
-
-/// How many names a listing gives at most.
-pub(crate) const PAGE_NAMES: usize = 1000;
 
 /// The status of an object of another length than was asked for.
 const OTHER_LENGTH: u16 = 600;
@@ -33,19 +33,23 @@ impl Content {
     }
 
     /// The texts of its sizes.
-    pub(crate) fn texts(&self, alloc: Global) -> Result<HeadText, AllocError> {
+    pub(crate) fn texts(&self, alloc: Global) -> Result<HeadText, AllocError>
+        ensures { IfOk result (λ texts. texts ≡ texts_of self.now.meta) }
+    {
         match self.meta {
             None => Ok(no_texts()),
             Some(Meta { size, block_size }) => Ok(HeadText {
-                size: Some(decimal(alloc, size)?),
-                block_size: Some(decimal(alloc, u64::from(block_size))?),
+                size: Some(decimal_text(alloc, size)?),
+                block_size: Some(decimal_text(alloc, u64::from(block_size))?),
             }),
         }
     }
 }
 
 /// The texts of an object that carries no sizes.
-pub(crate) fn no_texts() -> HeadText {
+pub(crate) fn no_texts() -> HeadText
+    ensures { result ≡ objects.no_texts }
+{
     HeadText {
         size: None,
         block_size: None,
@@ -53,23 +57,50 @@ pub(crate) fn no_texts() -> HeadText {
 }
 
 /// A number as decimal text.
-fn decimal(alloc: Global, number: u64) -> Result<Text, AllocError> {
+fn decimal_text(alloc: Global, number: u64) -> Result<Text, AllocError>
+    ensures { IfOk result (λ text. text ≡ decimal number) }
+{
     let text = format!(in alloc; "{number}")?;
     Text::of(alloc, text.as_bytes())
 }
 
-/// Copies an object, if it is there, into a buffer of its length.
-pub(crate) fn fetch(body: Option<&[u8]>, out: &mut [u8]) -> Result<Got, LinkFault>
-    ensures { Shows (option_copied body.entry) result out.new }
+/// Answers a GET with an object, if it is there, into a buffer of its length.
+pub(crate) fn fetch(
+    body: Option<&[u8]>,
+    verify: Option<Digest>,
+    out: &mut [u8],
+) -> Result<Got, LinkFault>
+    ensures shows { Shows verify (option_copied body.entry) result out.new }
+    ensures unchanged { result ≡ Ok (Got.Same) → out.new ≡ out.old }
 {
     match body {
         None => Ok(Got::Absent),
-        Some(body) if body.len() == out.len() => {
-            out.copy_from_slice(body);
-            Ok(Got::Bytes)
-        }
+        Some(body) if body.len() == out.len() => Ok(copy_unless_same(body, verify, out)),
         Some(_) => Err(LinkFault::Failed {
             status: OTHER_LENGTH,
         }),
     }
+}
+
+/// Copies bytes, unless they have the digest that is asked about.
+fn copy_unless_same(bytes: &[u8], verify: Option<Digest>, out: &mut [u8]) -> Got
+    requires { length bytes.now ≡ length out.old }
+    ensures shows { Shows verify (Some bytes.now) (Ok result) out.new }
+    ensures unchanged { result ≡ Got.Same → out.new ≡ out.old }
+{
+    if let Some(digest) = verify {
+        if digest_of(bytes) == digest {
+            return Got::Same;
+        }
+    }
+    out.copy_from_slice(bytes);
+    Got::Bytes
+}
+
+/// The MD5 of bytes.
+fn digest_of(bytes: &[u8]) -> Digest
+    ensures { result ≡ md5 bytes.now }
+{
+    use md5::Digest;
+    Md5::digest(bytes)
 }

@@ -1,8 +1,11 @@
 //! Which calls of a fake fail.
 
-ghost use Rattle.std.specs.Prelude.{◌≡◌, true};
+ghost use Rattle.std.specs.Prelude.{◌≡◌, false};
 ghost use Rattle.sb_world.specs.Told.{CountsFaults};
-ghost use Rattle.sb_fakes.specs.Failing.{fails_next};
+ghost use Rattle.sb_fakes.specs.Failing as failing;
+ghost use Rattle.sb_fakes.specs.Failing.{fails_next, answered, one_more};
+
+use sb_world::LinkFault;
 
 /// The calls of a fake that are to fail, counted from 1, and how often it has failed.
 #[derive(Drop)]
@@ -24,23 +27,31 @@ impl Faults {
         }
     }
 
-    /// Counts a call, and a fault where it is one that is to fail.
+    /// Counts a call, and answers whether it is to fail.
     pub(crate) fn next_call_fails(&mut self) -> bool
         ensures planned { result ≡ fails_next self.old }
-        ensures cause { CountsFaults self.old.count self.new.count (result ≡ true) }
+        ensures call { self.new ≡ answered false self.old }
     {
         self.calls = self.calls.saturating_add(1);
-        let fails = self.planned.contains(&self.calls);
-        if fails {
-            self.add();
-        }
-        fails
+        self.planned.contains(&self.calls)
     }
 
     /// Counts a fault.
     pub(crate) fn add(&mut self)
-        ensures { CountsFaults self.old.count self.new.count (Unit {0}) }
+        ensures added { self.new ≡ record {
+          planned = self.old.planned;
+          calls = self.old.calls;
+          count = one_more self.old.count;
+        } }
+        ensures cause { CountsFaults self.old.count self.new.count (Unit {0}) }
     {
         self.count = self.count.saturating_add(1);
     }
+}
+
+/// Tells whether a request failed for another cause than memory.
+pub(crate) fn has_failed<T>(answer: &Result<T, LinkFault>) -> bool
+    ensures { result ≡ failing.has_failed answer.now }
+{
+    matches!(answer, Err(LinkFault::Failed { .. }))
 }

@@ -1,46 +1,72 @@
 //! A folder in memory.
 
-ghost use Rattle.std.specs.Prelude.{◌≡◌, Some, IfOk, nat_eq};
+ghost use Rattle.std.specs.Prelude.{◌≡◌, ◌/◌, Ok, Some, IfOk, IsErrOf, MatchResult, length};
 ghost use Rattle.std.specs.Option.{option_copied};
-ghost use Rattle.std.specs.List.{list_any, filter};
-ghost use Rattle.std.specs.Cmp.Lexicographic.{pointwise};
-ghost use Rattle.sb_world.specs.Folders.{Reads, Writes, Renames, HasNames};
+ghost use Rattle.sb_world.specs.Told.{CountsFaults};
+ghost use Rattle.sb_world.specs.Folders.{Becomes, Reads, Writes, Renames, Removes, Lists};
 ghost use Rattle.sb_world.specs.declared.folder.FolderFault.{FolderFault};
-ghost use Rattle.sb_fakes.specs.Objects.{bodies_of, count_of, is_other};
+ghost use Rattle.sb_fakes.specs.Objects.{bodies_of, count_of};
+ghost use Rattle.sb_fakes.specs.Failing.{fails_next, answered, folder_failed, one_more};
+ghost use Rattle.sb_fakes.specs.Folders.{left_of, MayHaveBody, Moves, MayMove, WritesOrLeaves, RenamesOrLeaves};
+ghost use Rattle.sb_fakes.specs.Folders.{RemovesOrFails, FailsAsPlanned};
 
 use crate::faults::Faults;
-use crate::object::{Object, body_of};
+use crate::names::names_of;
+use crate::object::{Object, body_of, put, take_away};
 use sb_base::Text;
 use sb_world::{FileGot, Folder, FolderFault, Page};
 use std::alloc::{AllocError, Global};
 
+/// What a write or a rename that is to fail leaves under the name that it was to change.
+#[derive(Drop, Clone, Copy, PartialEq, Eq, Debug)]
+pub enum Left {
+    /// What was there, and a rename's file under its first name.
+    Old,
+    /// The whole new file.
+    New,
+    /// The first half of the new file's bytes.
+    Cut,
+}
+
 /// A folder that keeps its files in a list and tells them always. Of two files of one name in the list it is given, it
-/// has the first. The calls in `fails`, counted from 1, fail and change nothing.
+/// has the first. The calls in `fails`, counted from 1, fail. A write or a rename that fails so leaves what `left` says,
+/// and each other call that fails changes nothing.
 #[derive(Drop)]
 pub struct MemoryFolder {
     alloc: Global,
     files: Vec<Object>,
+    left: Left,
     faults: Faults,
 }
 
 impl MemoryFolder {
-    /// A folder of these files.
+    /// A folder of these files, whose calls that fail change nothing.
     pub fn new(alloc: Global, files: Vec<Object>, fails: Vec<u64>) -> MemoryFolder
         ensures given { (result.files ≡ files) × (result.faults.planned ≡ fails) × (result.faults.calls ≡ 0) }
+        ensures left { result.left ≡ Left.Old }
         ensures faults { result.faults.count ≡ 0 }
     {
         MemoryFolder {
             alloc,
             files,
+            left: Left::Old,
             faults: Faults::new(fails),
         }
+    }
+
+    /// Chooses what the writes and renames that are to fail leave from now on.
+    pub fn leave(&mut self, left: Left)
+        ensures left { self.new.left ≡ left }
+        ensures stays { (self.new.files ≡ self.old.files) × (self.new.faults ≡ self.old.faults) }
+    {
+        self.left = left;
     }
 
     /// What a file has, if it is there.
     pub fn body(&self, name: &[u8]) -> Option<&[u8]>
         ensures { option_copied result ≡ bodies_of self.now.files.items name.now }
     {
-        body_of(&self.files, name)
+        body_of(&self.files, name).map(Text::bytes)
     }
 
     /// How many files there are.
@@ -55,13 +81,41 @@ impl MemoryFolder {
         }
         count
     }
+
+    /// Counts a fault.
+    fn fail(&mut self) -> FolderFault
+        ensures fault { result ≡ FolderFault.Failed }
+        ensures faults { self.new.faults ≡ record {
+          planned = self.old.faults.planned;
+          calls = self.old.faults.calls;
+          count = one_more self.old.faults.count;
+        } }
+        ensures cause { CountsFaults self.old.faults.count self.new.faults.count (Unit {0}) }
+        ensures stays { (self.new.files ≡ self.old.files) × (self.new.left ≡ self.old.left) }
+    {
+        self.faults.add();
+        FolderFault::Failed
+    }
+}
+
+impl Left {
+    /// The bytes that take the place of a file, if any do.
+    fn of(self, body: &[u8]) -> Option<&[u8]>
+        ensures { option_copied result ≡ left_of self body.now }
+    {
+        match self {
+            Left::Old => None,
+            Left::New => Some(body),
+            Left::Cut => Some(&body[..body.len() / 2]),
+        }
+    }
 }
 
 /// Reads a file into a buffer of its length.
 fn fetch(files: &[Object], name: &[u8], out: &mut [u8]) -> FileGot
     ensures { Reads {E = FolderFault} name.now (Ok result) out.new (bodies_of files.now) }
 {
-    match body_of(files, name) {
+    match body_of(files, name).map(Text::bytes) {
         None => FileGot::Absent,
         Some(body) if body.len() == out.len() => {
             out.copy_from_slice(body);
@@ -71,24 +125,43 @@ fn fetch(files: &[Object], name: &[u8], out: &mut [u8]) -> FileGot
     }
 }
 
-/// Takes the files of a name away.
-fn take_away(files: &mut Vec<Object>, name: &[u8])
-    ensures { files.new.items ≡ filter (is_other name.now) files.old.items }
+/// Makes a file just these bytes, if there are any.
+fn place(
+    alloc: Global,
+    files: &mut Vec<Object>,
+    name: &[u8],
+    body: Option<&[u8]>,
+) -> Result<(), AllocError>
+    ensures { MatchResult result
+        (λ _. MayHaveBody name.now (option_copied body.entry) (bodies_of files.old.items) (bodies_of files.new.items))
+        (λ _. files.new.items ≡ files.old.items) }
 {
-    files.retain(|file| file.name.bytes() != name);
+    match body {
+        Some(body) => put(files, Text::of(alloc, name)?, Text::of(alloc, body)?),
+        None => Ok(()),
+    }
 }
 
-/// Makes a file just these bytes.
-fn put(alloc: Global, files: &mut Vec<Object>, name: &[u8], body: &[u8]) -> Result<(), AllocError>
-    ensures { Writes name.now body.now result (bodies_of files.old.items) (bodies_of files.new.items) }
+/// Gives bytes, if there are any, another name.
+fn move_file(
+    alloc: Global,
+    files: &mut Vec<Object>,
+    from: &[u8],
+    to: &[u8],
+    body: Option<&[u8]>,
+) -> Result<(), AllocError>
+    ensures { MatchResult result
+        (λ _. MayMove from.now to.now (option_copied body.entry) (bodies_of files.old.items)
+        (bodies_of files.new.items))
+        (λ _. files.new.items ≡ files.old.items) }
 {
-    let file = Object {
-        name: Text::of(alloc, name)?,
-        body: Text::of(alloc, body)?,
+    let Some(body) = body else {
+        return Ok(());
     };
-    files.reserve(1)?;
-    take_away(files, name);
-    files.push(file)?;
+    put(files, Text::of(alloc, to)?, Text::of(alloc, body)?)?;
+    if from != to {
+        take_away(files, from);
+    }
     Ok(())
 }
 
@@ -97,52 +170,9 @@ fn copy_of(alloc: Global, files: &[Object], name: &[u8]) -> Result<Option<Text>,
     ensures { IfOk result (λ copy. copy ≡ bodies_of files.now name.now) }
 {
     match body_of(files, name) {
-        Some(body) => Ok(Some(Text::of(alloc, body)?)),
+        Some(body) => Ok(Some(body.copy(alloc)?)),
         None => Ok(None),
     }
-}
-
-/// Gives the file that has this body another name.
-fn rename_file(
-    alloc: Global,
-    files: &mut Vec<Object>,
-    from: &[u8],
-    to: &[u8],
-    body: &Text,
-) -> Result<(), AllocError>
-    requires { bodies_of files.old.items from.now ≡ Some body.now }
-    ensures { Renames from.now to.now result (bodies_of files.old.items) (bodies_of files.new.items) }
-{
-    put(alloc, files, to, body.bytes())?;
-    if from != to {
-        take_away(files, from);
-    }
-    Ok(())
-}
-
-/// Whether a name is among these.
-fn is_among(name: &[u8], names: &[Text]) -> bool
-    ensures { result ≡ list_any (pointwise nat_eq name.now) names.now }
-{
-    for other in names {
-        if name == other.bytes() {
-            return true;
-        }
-    }
-    false
-}
-
-/// The names of all files, each once.
-fn names_of(alloc: Global, files: &[Object]) -> Result<Vec<Text>, AllocError>
-    ensures { IfOk result (λ names. HasNames names.items (bodies_of files.now)) }
-{
-    let mut names = Vec::new(alloc);
-    for file in files {
-        if !is_among(file.name.bytes(), &names) {
-            names.push(file.name.copy(alloc)?)?;
-        }
-    }
-    Ok(names)
 }
 
 impl Folder for MemoryFolder {
@@ -150,52 +180,95 @@ impl Folder for MemoryFolder {
 
     ghost faults = { λ folder. folder.faults.count };
 
-    fn read(&mut self, name: &[u8], out: &mut [u8]) -> Result<FileGot, FolderFault> {
+    fn read(&mut self, name: &[u8], out: &mut [u8]) -> Result<FileGot, FolderFault>
+        ensures length { length out.new ≡ length out.old }
+        ensures told { Reads name.now result out.new (bodies_of self.old.files.items) }
+        ensures files { self.new.files ≡ self.old.files }
+        ensures cause { CountsFaults self.old.faults.count self.new.faults.count (IsErrOf result FolderFault.Failed) }
+        ensures planned { FailsAsPlanned (fails_next self.old.faults) result }
+        ensures faults { self.new.faults ≡ answered (folder_failed result) self.old.faults }
+        ensures left { self.new.left ≡ self.old.left }
+    {
         if self.faults.next_call_fails() {
-            return Err(FolderFault::Failed);
+            return Err(self.fail());
         }
         Ok(fetch(&self.files, name, out))
     }
 
-    fn write(&mut self, name: &[u8], body: &[u8]) -> Result<(), FolderFault> {
-        if self.faults.next_call_fails() {
-            return Err(FolderFault::Failed);
+    fn write(&mut self, name: &[u8], body: &[u8]) -> Result<(), FolderFault>
+        ensures told { Becomes (Some (bodies_of self.old.files.items)) (Some (bodies_of self.new.files.items))
+            (Writes name.now body.now result) }
+        ensures cause { CountsFaults self.old.faults.count self.new.faults.count (IsErrOf result FolderFault.Failed) }
+        ensures files { WritesOrLeaves (fails_next self.old.faults) self.old.left name.now body.now result
+            (bodies_of self.old.files.items) (bodies_of self.new.files.items) }
+        ensures faults { self.new.faults ≡ answered (folder_failed result) self.old.faults }
+        ensures left { self.new.left ≡ self.old.left }
+    {
+        let fails = self.faults.next_call_fails();
+        let body = if fails {
+            self.left.of(body)
+        } else {
+            Some(body)
+        };
+        if place(self.alloc, &mut self.files, name, body).is_err() {
+            return Err(FolderFault::Memory);
         }
-        match put(self.alloc, &mut self.files, name, body) {
-            Ok(()) => Ok(()),
-            Err(_) => Err(FolderFault::Memory),
-        }
+        if fails { Err(self.fail()) } else { Ok(()) }
     }
 
-    fn rename(&mut self, from: &[u8], to: &[u8]) -> Result<(), FolderFault> {
-        if self.faults.next_call_fails() {
-            return Err(FolderFault::Failed);
+    fn rename(&mut self, from: &[u8], to: &[u8]) -> Result<(), FolderFault>
+        ensures told { Becomes (Some (bodies_of self.old.files.items)) (Some (bodies_of self.new.files.items))
+            (Renames from.now to.now result) }
+        ensures cause { CountsFaults self.old.faults.count self.new.faults.count (IsErrOf result FolderFault.Failed) }
+        ensures files { RenamesOrLeaves (fails_next self.old.faults) self.old.left from.now to.now result
+            (bodies_of self.old.files.items) (bodies_of self.new.files.items) }
+        ensures faults { self.new.faults ≡ answered (folder_failed result) self.old.faults }
+        ensures left { self.new.left ≡ self.old.left }
+    {
+        let fails = self.faults.next_call_fails();
+        let body = match copy_of(self.alloc, &self.files, from) {
+            Ok(Some(body)) => body,
+            Ok(None) => return Err(self.fail()),
+            Err(_) => return Err(FolderFault::Memory),
+        };
+        let moved = if fails {
+            self.left.of(body.bytes())
+        } else {
+            Some(body.bytes())
+        };
+        if move_file(self.alloc, &mut self.files, from, to, moved).is_err() {
+            return Err(FolderFault::Memory);
         }
-        match copy_of(self.alloc, &self.files, from) {
-            Ok(Some(body)) => match rename_file(self.alloc, &mut self.files, from, to, &body) {
-                Ok(()) => Ok(()),
-                Err(_) => Err(FolderFault::Memory),
-            },
-            Ok(None) => {
-                self.faults.add();
-                Err(FolderFault::Failed)
-            }
-            Err(_) => Err(FolderFault::Memory),
-        }
+        if fails { Err(self.fail()) } else { Ok(()) }
     }
 
-    fn remove(&mut self, name: &[u8]) -> Result<bool, FolderFault> {
+    fn remove(&mut self, name: &[u8]) -> Result<bool, FolderFault>
+        ensures told { Becomes (Some (bodies_of self.old.files.items)) (Some (bodies_of self.new.files.items))
+            (Removes name.now result) }
+        ensures cause { CountsFaults self.old.faults.count self.new.faults.count (IsErrOf result FolderFault.Failed) }
+        ensures files { RemovesOrFails (fails_next self.old.faults) name.now result
+            (bodies_of self.old.files.items) (bodies_of self.new.files.items) }
+        ensures faults { self.new.faults ≡ answered (folder_failed result) self.old.faults }
+        ensures left { self.new.left ≡ self.old.left }
+    {
         if self.faults.next_call_fails() {
-            return Err(FolderFault::Failed);
+            return Err(self.fail());
         }
         let there = self.body(name).is_some();
         take_away(&mut self.files, name);
         Ok(there)
     }
 
-    fn list(&mut self, page: &mut Page) -> Result<(), FolderFault> {
+    fn list(&mut self, page: &mut Page) -> Result<(), FolderFault>
+        ensures told { Lists page.new result (bodies_of self.old.files.items) }
+        ensures files { self.new.files ≡ self.old.files }
+        ensures cause { CountsFaults self.old.faults.count self.new.faults.count (IsErrOf result FolderFault.Failed) }
+        ensures planned { FailsAsPlanned (fails_next self.old.faults) result }
+        ensures faults { self.new.faults ≡ answered (folder_failed result) self.old.faults }
+        ensures left { self.new.left ≡ self.old.left }
+    {
         if self.faults.next_call_fails() {
-            return Err(FolderFault::Failed);
+            return Err(self.fail());
         }
         match names_of(self.alloc, &self.files) {
             Ok(names) => {

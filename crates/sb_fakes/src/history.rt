@@ -2,7 +2,8 @@
 
 ghost use Rattle.std.specs.Prelude.{◌≡◌, [], MatchOption, MatchResult};
 ghost use Rattle.std.specs.Option.{option_copied};
-ghost use Rattle.sb_fakes.specs.Versions.{versions_in, versions_of, with_version, body_at, body_shown, number_shown};
+ghost use Rattle.sb_fakes.specs.Versions.{versions_in, versions_of, with_version, newest_of, body_at, body_shown};
+ghost use Rattle.sb_fakes.specs.Versions.{number_shown};
 ghost use Rattle.sb_fakes.specs.Versions.{AddsVersion, SparesAllVersions};
 
 use crate::content::Content;
@@ -20,7 +21,9 @@ pub(crate) struct History {
 
 impl History {
     /// What the newest version that ended ok is, if it is not the start.
-    pub(crate) fn newest(&self) -> Option<&Option<Content>> {
+    pub(crate) fn newest(&self) -> Option<&Option<Content>>
+        ensures { option_copied result ≡ newest_of (versions_in self.now) }
+    {
         match self.newest {
             0 => None,
             number => self.versions.get(number - 1),

@@ -11,7 +11,9 @@ mod folder;
 mod history;
 mod kept;
 mod log;
+mod names;
 mod object;
+mod shared_clock;
 mod store;
 mod tape;
 #[cfg(test)]
@@ -21,8 +23,9 @@ mod world;
 
 pub use clock::HandClock;
 pub use conn::MemoryConn;
-pub use folder::MemoryFolder;
+pub use folder::{Left, MemoryFolder};
 pub use object::Object;
+pub use shared_clock::{SharedClock, SlowLink};
 pub use store::PlainStore;
 pub use tape::RecordTape;
 pub use timed::{Show, TimedStore};

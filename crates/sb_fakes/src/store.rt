@@ -1,25 +1,30 @@
 //! A store in memory.
 
-ghost use Rattle.std.specs.Prelude.{◌≡◌, ◌≢◌, Some, []};
+ghost use Rattle.std.specs.Prelude.{◌≡◌, ◌≢◌, Ok, Some, [], ◌∷◌, IfOk, MatchResult};
+ghost use Rattle.std.specs.Option.{option_copied, option_map};
+ghost use Rattle.sb_world.specs.Told.{Gains, CountsFaults};
+ghost use Rattle.sb_world.specs.Calls.{get_reply, head_reply, list_reply, fault_of, HasFailed, IsAsked};
+ghost use Rattle.sb_world.specs.declared.link.Call.TheVariants as call;
+ghost use Rattle.sb_pages.specs.Listings.{IsPage};
+ghost use Rattle.sb_fakes.specs.Failing.{counted};
+ghost use Rattle.sb_fakes.specs.Failing as failing;
+ghost use Rattle.sb_fakes.specs.Objects.{bodies_of, body_in, texts_of, HasBody, HasNoBody, Heads, Lists, Puts, Shows};
 
-use crate::content::{Content, PAGE_NAMES, fetch};
+use crate::content::{Content, fetch};
+use crate::faults::has_failed;
 use crate::log::Log;
+use crate::names::names_of;
+use crate::object::{Object, body_of, put, take_away};
 use sb_base::{Digest, Text};
+use sb_pages::next_page;
 use sb_world::{Got, HeadText, Link, LinkFault, Meta, Page};
 use std::alloc::{AllocError, Global};
 
-/// An object.
-#[derive(Drop)]
-struct Stored {
-    name: Text,
-    content: Content,
-}
-
-/// A store that keeps the newest of each object, in the order of their names, and the log of its calls.
+/// A store that shows the newest of each object, and the log of its calls.
 #[derive(Drop)]
 pub struct PlainStore {
     alloc: Global,
-    objects: Vec<Stored>,
+    objects: Vec<Object<Content>>,
     log: Log,
     faults: u64,
 }
@@ -39,60 +44,58 @@ impl PlainStore {
         }
     }
 
-    /// The object of a name.
-    fn find(&self, name: &[u8]) -> Option<&Content> {
-        self.objects
-            .iter()
-            .find(|object| object.name.bytes() == name)
-            .map(|object| &object.content)
+    /// Puts an object in the place of the one that has the name.
+    fn store(&mut self, name: &[u8], body: &[u8], meta: Option<Meta>) -> Result<(), LinkFault>
+        ensures puts { Puts name.now (record { body = body.now; meta = meta }) result
+            (bodies_of self.old.objects.items) (bodies_of self.new.objects.items) }
+        ensures stays { (self.new.log ≡ self.old.log) × (self.new.faults ≡ self.old.faults) }
+    {
+        match self.add(name, body, meta) {
+            Ok(()) => Ok(()),
+            Err(_) => Err(LinkFault::Memory),
+        }
     }
 
-    /// Puts an object where its name belongs, in the place of the one that has the name.
-    fn store(&mut self, name: &[u8], body: &[u8], meta: Option<Meta>) -> Result<(), AllocError>
-        ensures frame { (self.new.log ≡ self.old.log) × (self.new.faults ≡ self.old.faults) }
+    /// Adds an object in front of those of its name.
+    fn add(&mut self, name: &[u8], body: &[u8], meta: Option<Meta>) -> Result<(), AllocError>
+        ensures put { MatchResult result
+            (λ _. HasBody name.now (record { body = body.now; meta = meta }) (bodies_of self.old.objects.items)
+            (bodies_of self.new.objects.items))
+            (λ _. self.new.objects.items ≡ self.old.objects.items) }
+        ensures stays { (self.new.log ≡ self.old.log) × (self.new.faults ≡ self.old.faults) }
     {
-        let object = Stored {
-            name: Text::of(self.alloc, name)?,
-            content: Content::of(self.alloc, body, meta)?,
-        };
-        let place = self
-            .objects
-            .iter()
-            .position(|other| other.name.bytes() >= name)
-            .unwrap_or(self.objects.len());
-        if place < self.objects.len() && self.objects[place].name.bytes() == name {
-            self.objects[place] = object;
-        } else {
-            self.objects.insert(place, object)?;
-        }
-        Ok(())
+        let content = Content::of(self.alloc, body, meta)?;
+        put(&mut self.objects, Text::of(self.alloc, name)?, content)
     }
 
     /// The names of a page, and whether more follow.
-    fn names_after(
-        &self,
-        prefix: &[u8],
-        marker: &[u8],
-        page: &mut Page,
-    ) -> Result<bool, AllocError> {
-        page.keys = Vec::new(self.alloc);
-        for object in &self.objects {
-            let name = object.name.bytes();
-            if name > marker && name.starts_with(prefix) {
-                if page.keys.len() == PAGE_NAMES {
-                    return Ok(true);
-                }
-                page.keys.push(Text::of(self.alloc, name)?)?;
-            }
-        }
-        Ok(false)
+    fn names_after(&self, prefix: &[u8], marker: &[u8], page: &mut Page) -> Result<bool, AllocError>
+        ensures { IfOk result (λ more. IsPage prefix.now marker.now page.new more
+            (λ name. body_in (bodies_of self.now.objects.items name))) }
+    {
+        page.keys = names_of(self.alloc, &self.objects)?;
+        Ok(next_page(prefix, marker, page))
     }
 
     /// The texts of the sizes that an object carries.
-    fn texts(&self, name: &[u8]) -> Result<Option<HeadText>, AllocError> {
-        match self.find(name) {
+    fn texts(&self, name: &[u8]) -> Result<Option<HeadText>, AllocError>
+        ensures { IfOk result (λ texts. texts
+            ≡ option_map (λ content. texts_of content.meta) (bodies_of self.now.objects.items name.now)) }
+    {
+        match body_of(&self.objects, name) {
             Some(content) => Ok(Some(content.texts(self.alloc)?)),
             None => Ok(None),
+        }
+    }
+
+    /// Counts the fault of an answer.
+    fn count<T>(&mut self, answer: &Result<T, LinkFault>)
+        ensures faults { self.new.faults ≡ counted (failing.has_failed answer.now) self.old.faults }
+        ensures cause { CountsFaults self.old.faults self.new.faults (HasFailed answer.now) }
+        ensures stays { (self.new.objects ≡ self.old.objects) × (self.new.log ≡ self.old.log) }
+    {
+        if has_failed(answer) {
+            self.faults = self.faults.saturating_add(1);
         }
     }
 }
@@ -102,36 +105,56 @@ impl Link for PlainStore {
 
     ghost faults = { λ store. store.faults };
 
-    fn get(
-        &mut self,
-        name: &[u8],
-        verify: Option<Digest>,
-        out: &mut [u8],
-    ) -> Result<Got, LinkFault> {
-        let answer = fetch(self.find(name).map(|content| content.body.bytes()), out);
-        if answer.is_err() {
-            self.faults = self.faults.saturating_add(1);
-        }
+    fn get(&mut self, name: &[u8], verify: Option<Digest>, out: &mut [u8]) -> Result<Got, LinkFault>
+        ensures asked { IsAsked result verify }
+        ensures unchanged { result ≡ Ok (Got.Same) → out.new ≡ out.old }
+        ensures told { Gains self.old.log self.new.log
+            (call.Get name.now verify (get_reply result out.new) ∷ []) }
+        ensures cause { CountsFaults self.old.faults self.new.faults (HasFailed result) }
+        ensures shows { Shows verify (body_in (bodies_of self.old.objects.items name.now)) result out.new }
+        ensures faults { self.new.faults ≡ counted (failing.has_failed result) self.old.faults }
+        ensures objects { self.new.objects ≡ self.old.objects }
+    {
+        let content = body_of(&self.objects, name);
+        let answer = fetch(content.map(|content| content.body.bytes()), verify, out);
+        self.count(&answer);
         self.log.get(name, verify, answer, out);
         answer
     }
 
-    fn put(&mut self, name: &[u8], body: &[u8], meta: Option<Meta>) -> Result<(), LinkFault> {
-        let answer = match self.store(name, body, meta) {
-            Ok(()) => Ok(()),
-            Err(_) => Err(LinkFault::Memory),
-        };
+    fn put(&mut self, name: &[u8], body: &[u8], meta: Option<Meta>) -> Result<(), LinkFault>
+        ensures told { Gains self.old.log self.new.log
+            (call.Put name.now body.now meta (fault_of result) ∷ []) }
+        ensures cause { CountsFaults self.old.faults self.new.faults (HasFailed result) }
+        ensures puts { Puts name.now (record { body = body.now; meta = meta }) result
+            (bodies_of self.old.objects.items) (bodies_of self.new.objects.items) }
+        ensures faults { self.new.faults ≡ self.old.faults }
+    {
+        let answer = self.store(name, body, meta);
         self.log.put(name, body, meta, answer);
         answer
     }
 
-    fn delete(&mut self, name: &[u8]) -> Result<(), LinkFault> {
-        self.objects.retain(|object| object.name.bytes() != name);
+    fn delete(&mut self, name: &[u8]) -> Result<(), LinkFault>
+        ensures told { Gains self.old.log self.new.log (call.Delete name.now (fault_of result) ∷ []) }
+        ensures cause { CountsFaults self.old.faults self.new.faults (HasFailed result) }
+        ensures done { result ≡ Ok tt }
+        ensures gone { HasNoBody name.now (bodies_of self.old.objects.items) (bodies_of self.new.objects.items) }
+        ensures faults { self.new.faults ≡ self.old.faults }
+    {
+        take_away(&mut self.objects, name);
         self.log.delete(name, Ok(()));
         Ok(())
     }
 
-    fn head(&mut self, name: &[u8]) -> Result<Option<HeadText>, LinkFault> {
+    fn head(&mut self, name: &[u8]) -> Result<Option<HeadText>, LinkFault>
+        ensures told { Gains self.old.log self.new.log (call.Head name.now (head_reply result) ∷ []) }
+        ensures cause { CountsFaults self.old.faults self.new.faults (HasFailed result) }
+        ensures found { Heads (option_map (λ content. texts_of content.meta)
+            (bodies_of self.old.objects.items name.now)) result }
+        ensures faults { self.new.faults ≡ self.old.faults }
+        ensures objects { self.new.objects ≡ self.old.objects }
+    {
         let answer = match self.texts(name) {
             Ok(texts) => Ok(texts),
             Err(_) => Err(LinkFault::Memory),
@@ -140,7 +163,15 @@ impl Link for PlainStore {
         answer
     }
 
-    fn list(&mut self, prefix: &[u8], marker: &[u8], page: &mut Page) -> Result<bool, LinkFault> {
+    fn list(&mut self, prefix: &[u8], marker: &[u8], page: &mut Page) -> Result<bool, LinkFault>
+        ensures told { Gains self.old.log self.new.log
+            (call.List prefix.now marker.now (list_reply result page.new) ∷ []) }
+        ensures cause { CountsFaults self.old.faults self.new.faults (HasFailed result) }
+        ensures listed { Lists prefix.now marker.now page.new result
+            (λ name. body_in (bodies_of self.old.objects.items name)) }
+        ensures faults { self.new.faults ≡ self.old.faults }
+        ensures objects { self.new.objects ≡ self.old.objects }
+    {
         let answer = match self.names_after(prefix, marker, page) {
             Ok(more) => Ok(more),
             Err(_) => Err(LinkFault::Memory),

@@ -1,14 +1,16 @@
 //! What no clause says: that memory is found, the texts of a HEAD, the names of a listing, and values from outside.
 
 use crate::{
-    HandClock, MemoryConn, MemoryFolder, MemoryWorld, Object, PlainStore, Show, TimedStore,
+    HandClock, Left, MemoryConn, MemoryFolder, MemoryWorld, Object, PlainStore, SharedClock, Show,
+    SlowLink, TimedStore,
 };
 use sb_base::{StorePlan, Text};
 use sb_world::{
-    Bench, FileGot, Folder, FolderFault, Got, HeadText, Link, LinkFault, MakeFault, Meta, Page,
-    World,
+    Bench, Clock, FileGot, Folder, FolderFault, Got, HeadText, Link, LinkFault, MakeFault, Meta,
+    Page, World,
 };
 use std::alloc::{AllocError, Global};
+use std::cell::Cell;
 use std::test::Fail;
 
 /// Objects of these names, each with its place among them as its one byte.
@@ -121,6 +123,45 @@ fn a_get_that_failed_is_counted(rt: HostRuntime) -> Result<(), Fail> {
     let mut store = store(rt.alloc(), &[Show { get: 2, version: 0 }], &[2])?;
     let answers = played(rt.alloc(), &mut store, b"1ggg")?;
     assert_eq!(rt; answers.bytes(), b".!01".as_slice());
+    Ok(())
+}
+
+/// The MD5 of `1`, as `printf 1 | md5sum` prints it.
+const MD5_OF_ONE: [u8; 16] = [
+    0xc4, 0xca, 0x42, 0x38, 0xa0, 0xb9, 0x23, 0x82, 0x0d, 0xcc, 0x50, 0x9a, 0x6f, 0x75, 0x84, 0x9b,
+];
+
+/// What a GET of `1`, and then of `2`, answers to the digest of `1`.
+fn verified<L: Link>(link: &mut L) -> [Result<Got, LinkFault>; 2] {
+    let mut out = [b'?'];
+    let _one = step(link, b'1');
+    let same = link.get(b"a", Some(MD5_OF_ONE), &mut out);
+    let _two = step(link, b'2');
+    let other = link.get(b"a", Some(MD5_OF_ONE), &mut out);
+    [same, other]
+}
+
+#[test]
+fn a_get_answers_same_by_the_digest(rt: HostRuntime) -> Result<(), Fail> {
+    let want = [Ok(Got::Same), Ok(Got::Bytes)];
+    assert_eq!(rt; verified(&mut store(rt.alloc(), &[], &[])?), want);
+    assert_eq!(rt; verified(&mut PlainStore::new(rt.alloc())), want);
+    Ok(())
+}
+
+#[test]
+fn a_call_of_a_slow_link_moves_the_clock_behind_its_answer(rt: HostRuntime) -> Result<(), Fail> {
+    let hand = Cell::new(1000);
+    let mut clock = SharedClock::new(rt.alloc(), &hand, 0);
+    let mut link = SlowLink {
+        link: PlainStore::new(rt.alloc()),
+        hand: &hand,
+        millis: 7,
+    };
+    let before = clock.now();
+    let _put = step(&mut link, b'1');
+    clock.pause(20);
+    assert_eq!(rt; (before, clock.now()), (1000, 1027));
     Ok(())
 }
 
@@ -285,7 +326,18 @@ fn folder(alloc: Global, fails: &[u64]) -> Result<MemoryFolder, AllocError> {
 
 /// What these calls of a folder answer, one after the other, and then how many files it has.
 fn called(alloc: Global, calls: &[u8], fails: &[u64]) -> Result<Text, AllocError> {
+    called_leaving(alloc, Left::Old, calls, fails)
+}
+
+/// The same of a folder whose calls that are to fail leave this.
+fn called_leaving(
+    alloc: Global,
+    left: Left,
+    calls: &[u8],
+    fails: &[u64],
+) -> Result<Text, AllocError> {
     let mut folder = folder(alloc, fails)?;
+    folder.leave(left);
     let mut answers = Vec::new(alloc);
     for each in calls {
         answers.push(call(&mut folder, *each))?;
@@ -320,6 +372,25 @@ fn a_remove_tells_whether_the_file_was_there(rt: HostRuntime) -> Result<(), Fail
 fn the_calls_that_are_to_fail_change_nothing(rt: HostRuntime) -> Result<(), Fail> {
     let answers = called(rt.alloc(), b"aWRXab", &[1, 2, 3, 4])?;
     assert_eq!(rt; answers.bytes(), b"!!!!01 2".as_slice());
+    Ok(())
+}
+
+/// What a write and a rename that fail leave: `W` puts `new` in the place of `a`, and `R` gives `a` the name `b`.
+const LEFT: [(Left, &'static [u8], &'static [u8]); 6] = [
+    (Left::Old, b"Wa", b"!0 2"),
+    (Left::New, b"Wa", b"!+ 2"),
+    (Left::Cut, b"Wa", b"!n 2"),
+    (Left::Old, b"Rab", b"!01 2"),
+    (Left::New, b"Rab", b"!-0 1"),
+    (Left::Cut, b"Rab", b"!-+ 1"),
+];
+
+#[test]
+fn a_change_that_is_to_fail_leaves_what_was_chosen(rt: HostRuntime) -> Result<(), Fail> {
+    for (left, calls, want) in LEFT {
+        let answers = called_leaving(rt.alloc(), left, calls, &[1])?;
+        assert_eq!(rt; answers.bytes(), want);
+    }
     Ok(())
 }
 

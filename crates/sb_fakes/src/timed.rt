@@ -1,18 +1,24 @@
 //! A store in memory whose GETs may show older versions.
 
-ghost use Rattle.std.specs.Prelude.{◌≡◌, ◌≢◌, Some, None, [], ◌∷◌, OnOk, OnErr};
+ghost use Rattle.std.specs.Prelude.{◌≡◌, false, Ok, Some, None, [], ◌∷◌, IfOk, OnOk, OnErr};
+ghost use Rattle.std.specs.Option.{option_copied};
 ghost use Rattle.sb_world.specs.Told.{Gains, CountsFaults};
-ghost use Rattle.sb_world.specs.Calls.{get_reply, fault_of, HasFailed, IsAsked};
+ghost use Rattle.sb_world.specs.Calls.{get_reply, head_reply, list_reply, fault_of, HasFailed, IsAsked};
 ghost use Rattle.sb_world.specs.declared.link.Call.TheVariants as call;
-ghost use Rattle.sb_fakes.specs.Failing.{fails_next};
+ghost use Rattle.sb_fakes.specs.Failing as failing;
+ghost use Rattle.sb_fakes.specs.Failing.{fails_next, answered, counted, one_more};
+ghost use Rattle.sb_fakes.specs.Versions as versions;
 ghost use Rattle.sb_fakes.specs.Versions.{versions_of, chosen_of, shown_version, Answers, Changes};
+ghost use Rattle.sb_fakes.specs.Versions.{HeadAnswers, ListAnswers, KeepsChoices, KeepsObjects};
 
-use crate::content::{Content, PAGE_NAMES, fetch, no_texts};
-use crate::faults::Faults;
+use crate::content::{Content, fetch, no_texts};
+use crate::faults::{Faults, has_failed};
 use crate::history::{History, add_version, body_shown, history_of};
 use crate::log::Log;
+use crate::names::is_among;
 use crate::object::{Object, body_of};
 use sb_base::{Digest, Text};
+use sb_pages::next_page;
 use sb_world::{Got, HeadText, Link, LinkFault, Meta, Page};
 use std::alloc::{AllocError, Global};
 
@@ -75,31 +81,37 @@ impl TimedStore {
     }
 
     /// Answers a GET.
-    fn show(&mut self, name: &[u8], out: &mut [u8]) -> Result<Got, LinkFault>
-        ensures log { self.new.log ≡ self.old.log }
-        ensures cause { CountsFaults self.old.faults.count self.new.faults.count (HasFailed result) }
-        ensures found { result ≢ Ok (Got.Same) }
-        ensures shows { Answers (fails_next self.old.faults) (shown_version self.old name.now) result out.new }
+    fn show(
+        &mut self,
+        name: &[u8],
+        verify: Option<Digest>,
+        out: &mut [u8],
+    ) -> Result<Got, LinkFault>
+        ensures shows { Answers (fails_next self.old.faults) verify (shown_version self.old name.now) result out.new }
+        ensures unchanged { result ≡ Ok (Got.Same) → out.new ≡ out.old }
+        ensures stays { KeepsObjects self.old self.new × (self.new.log ≡ self.old.log) }
+        ensures calls { (self.new.gets ≡ one_more self.old.gets)
+            × (self.new.faults ≡ answered false self.old.faults) }
     {
         self.gets = self.gets.saturating_add(1);
         if self.faults.next_call_fails() {
             return Err(UNAVAILABLE);
         }
-        let start = body_of(&self.start, name);
+        let start = body_of(&self.start, name).map(Text::bytes);
         let chosen = chosen_of(&self.shows, self.gets);
-        let answer = fetch(body_shown(&self.histories, start, name, chosen), out);
-        if answer.is_err() {
-            self.faults.add();
-        }
-        answer
+        fetch(
+            body_shown(&self.histories, start, name, chosen),
+            verify,
+            out,
+        )
     }
 
     /// Answers a put or a delete, which makes the object this, none for a delete.
     fn change(&mut self, name: &[u8], content: Option<Content>) -> Result<(), LinkFault>
-        ensures log { self.new.log ≡ self.old.log }
-        ensures cause { CountsFaults self.old.faults.count self.new.faults.count (HasFailed result) }
         ensures kept { Changes (fails_next self.old.faults) name.now content result
             (versions_of self.old.histories.items) (versions_of self.new.histories.items) }
+        ensures stays { KeepsChoices self.old self.new × (self.new.log ≡ self.old.log) }
+        ensures calls { (self.new.gets ≡ self.old.gets) × (self.new.faults ≡ answered false self.old.faults) }
     {
         let fails = self.faults.next_call_fails();
         match add_version(self.alloc, &mut self.histories, name, content, !fails) {
@@ -111,10 +123,10 @@ impl TimedStore {
 
     /// Answers a put.
     fn store(&mut self, name: &[u8], body: &[u8], meta: Option<Meta>) -> Result<(), LinkFault>
-        ensures log { self.new.log ≡ self.old.log }
-        ensures cause { CountsFaults self.old.faults.count self.new.faults.count (HasFailed result) }
         ensures kept { Changes (fails_next self.old.faults) name.now (Some (record { body = body.now; meta = meta }))
             result (versions_of self.old.histories.items) (versions_of self.new.histories.items) }
+        ensures stays { KeepsChoices self.old self.new × (self.new.log ≡ self.old.log) }
+        ensures calls { (self.new.gets ≡ self.old.gets) × (self.new.faults ≡ answered false self.old.faults) }
     {
         match Content::of(self.alloc, body, meta) {
             Ok(content) => self.change(name, Some(content)),
@@ -127,8 +139,9 @@ impl TimedStore {
 
     /// Answers a HEAD.
     fn texts(&mut self, name: &[u8]) -> Result<Option<HeadText>, LinkFault>
-        ensures log { self.new.log ≡ self.old.log }
-        ensures cause { CountsFaults self.old.faults.count self.new.faults.count (HasFailed result) }
+        ensures found { HeadAnswers (fails_next self.old.faults) (versions.newest_texts self.old name.now) result }
+        ensures stays { KeepsObjects self.old self.new × (self.new.log ≡ self.old.log) }
+        ensures calls { (self.new.gets ≡ self.old.gets) × (self.new.faults ≡ answered false self.old.faults) }
     {
         if self.faults.next_call_fails() {
             return Err(UNAVAILABLE);
@@ -140,7 +153,9 @@ impl TimedStore {
     }
 
     /// The texts of the newest version that ended ok.
-    fn newest_texts(&self, name: &[u8]) -> Result<Option<HeadText>, AllocError> {
+    fn newest_texts(&self, name: &[u8]) -> Result<Option<HeadText>, AllocError>
+        ensures { IfOk result (λ texts. texts ≡ versions.newest_texts self.now name.now) }
+    {
         match history_of(&self.histories, name).and_then(History::newest) {
             Some(Some(content)) => Ok(Some(content.texts(self.alloc)?)),
             Some(None) => Ok(None),
@@ -150,52 +165,57 @@ impl TimedStore {
 
     /// Answers a listing.
     fn names(&mut self, prefix: &[u8], marker: &[u8], page: &mut Page) -> Result<bool, LinkFault>
-        ensures log { self.new.log ≡ self.old.log }
-        ensures cause { CountsFaults self.old.faults.count self.new.faults.count (HasFailed result) }
+        ensures listed { ListAnswers (fails_next self.old.faults) result }
+        ensures stays { KeepsObjects self.old self.new × (self.new.log ≡ self.old.log) }
+        ensures calls { (self.new.gets ≡ self.old.gets) × (self.new.faults ≡ answered false self.old.faults) }
     {
         if self.faults.next_call_fails() {
             return Err(UNAVAILABLE);
         }
-        match self.names_after(prefix, marker, page) {
-            Ok(more) => Ok(more),
+        match self.all_names() {
+            Ok(names) => {
+                page.keys = names;
+                Ok(next_page(prefix, marker, page))
+            }
             Err(_) => Err(LinkFault::Memory),
         }
     }
 
-    /// The names of a page, and whether more follow.
-    fn names_after(
-        &self,
-        prefix: &[u8],
-        marker: &[u8],
-        page: &mut Page,
-    ) -> Result<bool, AllocError> {
+    /// The names of all objects that are there, each once.
+    fn all_names(&self) -> Result<Vec<Text>, AllocError> {
         let mut names = Vec::new(self.alloc);
         for object in &self.start {
-            self.add_name(object.name.bytes(), prefix, marker, &mut names)?;
+            self.add_name(&object.name, &mut names)?;
         }
         for history in &self.histories {
-            self.add_name(history.name.bytes(), prefix, marker, &mut names)?;
+            self.add_name(&history.name, &mut names)?;
         }
-        let more = names.len() > PAGE_NAMES;
-        names.truncate(PAGE_NAMES);
-        page.keys = names;
-        Ok(more)
+        Ok(names)
     }
 
-    /// Adds a name to those of a listing, where it belongs there and the object is there.
-    fn add_name(
-        &self,
-        name: &[u8],
-        prefix: &[u8],
-        marker: &[u8],
-        names: &mut Vec<Text>,
-    ) -> Result<(), AllocError> {
-        let start = body_of(&self.start, name);
-        let is_there = body_shown(&self.histories, start, name, None).is_some();
-        if is_there && name > marker && name.starts_with(prefix) {
-            insert_name(self.alloc, names, name)?;
+    /// Adds a name, if the object is there and the name isn't among them.
+    fn add_name(&self, name: &Text, names: &mut Vec<Text>) -> Result<(), AllocError> {
+        let start = body_of(&self.start, name.bytes()).map(Text::bytes);
+        let is_there = body_shown(&self.histories, start, name.bytes(), None).is_some();
+        if is_there && !is_among(name.bytes(), names) {
+            names.push(name.copy(self.alloc)?)?;
         }
         Ok(())
+    }
+
+    /// Counts the fault of an answer.
+    fn count<T>(&mut self, answer: &Result<T, LinkFault>)
+        ensures faults { self.new.faults ≡ record {
+          planned = self.old.faults.planned;
+          calls = self.old.faults.calls;
+          count = counted (failing.has_failed answer.now) self.old.faults.count;
+        } }
+        ensures cause { CountsFaults self.old.faults.count self.new.faults.count (HasFailed answer.now) }
+        ensures stays { KeepsObjects self.old self.new × (self.new.log ≡ self.old.log) × (self.new.gets ≡ self.old.gets) }
+    {
+        if has_failed(answer) {
+            self.faults.add();
+        }
     }
 }
 
@@ -211,19 +231,6 @@ fn chosen_of(shows: &[Show], get: u64) -> Option<u32>
     None
 }
 
-/// Puts a name where it belongs in byte order, if it isn't there.
-fn insert_name(alloc: Global, names: &mut Vec<Text>, name: &[u8]) -> Result<(), AllocError> {
-    let place = names
-        .iter()
-        .position(|other| other.bytes() >= name)
-        .unwrap_or(names.len());
-    if place < names.len() && names[place].bytes() == name {
-        return Ok(());
-    }
-    names.insert(place, Text::of(alloc, name)?)?;
-    Ok(())
-}
-
 impl Link for TimedStore {
     ghost log = { λ store. store.log };
 
@@ -235,9 +242,12 @@ impl Link for TimedStore {
         ensures told { Gains self.old.log self.new.log
             (call.Get name.now verify (get_reply result out.new) ∷ []) }
         ensures cause { CountsFaults self.old.faults.count self.new.faults.count (HasFailed result) }
-        ensures shows { Answers (fails_next self.old.faults) (shown_version self.old name.now) result out.new }
+        ensures shows { Answers (fails_next self.old.faults) verify (shown_version self.old name.now) result out.new }
+        ensures faults { self.new.faults ≡ answered (failing.has_failed result) self.old.faults }
+        ensures stays { KeepsObjects self.old self.new × (self.new.gets ≡ one_more self.old.gets) }
     {
-        let answer = self.show(name, out);
+        let answer = self.show(name, verify, out);
+        self.count(&answer);
         self.log.get(name, verify, answer, out);
         answer
     }
@@ -248,8 +258,11 @@ impl Link for TimedStore {
         ensures cause { CountsFaults self.old.faults.count self.new.faults.count (HasFailed result) }
         ensures kept { Changes (fails_next self.old.faults) name.now (Some (record { body = body.now; meta = meta }))
             result (versions_of self.old.histories.items) (versions_of self.new.histories.items) }
+        ensures faults { self.new.faults ≡ answered (failing.has_failed result) self.old.faults }
+        ensures stays { KeepsChoices self.old self.new × (self.new.gets ≡ self.old.gets) }
     {
         let answer = self.store(name, body, meta);
+        self.count(&answer);
         self.log.put(name, body, meta, answer);
         answer
     }
@@ -259,20 +272,38 @@ impl Link for TimedStore {
         ensures cause { CountsFaults self.old.faults.count self.new.faults.count (HasFailed result) }
         ensures kept { Changes (fails_next self.old.faults) name.now None result
             (versions_of self.old.histories.items) (versions_of self.new.histories.items) }
+        ensures faults { self.new.faults ≡ answered (failing.has_failed result) self.old.faults }
+        ensures stays { KeepsChoices self.old self.new × (self.new.gets ≡ self.old.gets) }
     {
         let answer = self.change(name, None);
+        self.count(&answer);
         self.log.delete(name, answer);
         answer
     }
 
-    fn head(&mut self, name: &[u8]) -> Result<Option<HeadText>, LinkFault> {
+    fn head(&mut self, name: &[u8]) -> Result<Option<HeadText>, LinkFault>
+        ensures told { Gains self.old.log self.new.log (call.Head name.now (head_reply result) ∷ []) }
+        ensures cause { CountsFaults self.old.faults.count self.new.faults.count (HasFailed result) }
+        ensures found { HeadAnswers (fails_next self.old.faults) (versions.newest_texts self.old name.now) result }
+        ensures faults { self.new.faults ≡ answered (failing.has_failed result) self.old.faults }
+        ensures stays { KeepsObjects self.old self.new × (self.new.gets ≡ self.old.gets) }
+    {
         let answer = self.texts(name);
+        self.count(&answer);
         self.log.head(name, &answer);
         answer
     }
 
-    fn list(&mut self, prefix: &[u8], marker: &[u8], page: &mut Page) -> Result<bool, LinkFault> {
+    fn list(&mut self, prefix: &[u8], marker: &[u8], page: &mut Page) -> Result<bool, LinkFault>
+        ensures told { Gains self.old.log self.new.log
+            (call.List prefix.now marker.now (list_reply result page.new) ∷ []) }
+        ensures cause { CountsFaults self.old.faults.count self.new.faults.count (HasFailed result) }
+        ensures listed { ListAnswers (fails_next self.old.faults) result }
+        ensures faults { self.new.faults ≡ answered (failing.has_failed result) self.old.faults }
+        ensures stays { KeepsObjects self.old self.new × (self.new.gets ≡ self.old.gets) }
+    {
         let answer = self.names(prefix, marker, page);
+        self.count(&answer);
         self.log.list(prefix, marker, answer, page);
         answer
     }

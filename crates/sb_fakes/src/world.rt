@@ -1,10 +1,29 @@
 //! A world in memory.
 
-ghost use Rattle.std.specs.Prelude.{◌≡◌, ◌≤◌, ◌<◌, Some, None, [], ◌∷◌, true, IfOk, take, vec_len};
+ghost use Rattle.std.specs.Prelude.{
+  ◌≡◌,
+  ◌≤◌,
+  Some,
+  None,
+  [],
+  ◌∷◌,
+  true,
+  IfOk,
+  IfSome,
+  IsErrOf,
+  MatchResult,
+  length,
+  take,
+  drop,
+  vec_len,
+};
 ghost use Rattle.std.specs.Option.{option_copied};
-ghost use Rattle.sb_world.specs.Benches.{link_count};
-ghost use Rattle.sb_world.specs.Told.{Gains};
+ghost use Rattle.sb_world.specs.Benches.{link_count, with_links, HasPauses};
+ghost use Rattle.sb_world.specs.Told.{Gains, CountsFaults};
 ghost use Rattle.sb_world.specs.declared.world.Ask.TheVariants as ask;
+ghost use Rattle.sb_fakes.specs.Failing.{counted, make_failed};
+ghost use Rattle.sb_fakes.specs.Told.{said_of, next_parts, Hands, KeepsParts};
+ghost use Rattle.sb_fakes.specs.Told as worlds;
 ghost use Rattle.sb_fakes.specs.Worlds.{next_of, told_list};
 
 use crate::clock::HandClock;
@@ -13,6 +32,7 @@ use crate::kept::Kept;
 use sb_base::{StorePlan, Text};
 use sb_world::{Ask, Bench, Link, MakeFault, World};
 use std::alloc::{AllocError, Global};
+use std::mem;
 
 /// A bench of fakes over a link.
 type MemoryBench<L> = Bench<L, HandClock, MemoryConn, MemoryConn>;
@@ -68,8 +88,7 @@ impl<L: Link + Drop> MemoryWorld<L> {
 
     /// Whether there are the parts of a bench with so many links.
     fn has_parts(&self, links: usize) -> bool
-        ensures { result ≡ true → (links ≤ vec_len self.now.links) × (0 < vec_len self.now.clocks) ×
-            (0 < vec_len self.now.inputs) × (2 ≤ vec_len self.now.sinks) }
+        ensures { result ≡ worlds.has_parts links self.now }
     {
         self.links.len() >= links
             && !self.clocks.is_empty()
@@ -110,19 +129,14 @@ fn keep_ask(alloc: Global, asks: &mut Kept<Ask>, store: Option<&StorePlan>, link
 }
 
 /// The first of some items, taken out.
-fn take_front<X: Drop>(
-    alloc: Global,
-    items: &mut Vec<X>,
-    count: usize,
-) -> Result<Vec<X>, AllocError>
+fn take_front<X>(items: &mut Vec<X>, count: usize) -> Result<Vec<X>, AllocError>
     requires { count ≤ vec_len items.old }
-    ensures { IfOk result (λ front. front.items ≡ take count items.old.items) }
+    ensures { MatchResult result
+        (λ front. (front.items ≡ take count items.old.items) × (items.new.items ≡ drop count items.old.items))
+        (λ _. items.new.items ≡ items.old.items) }
 {
-    let mut front = Vec::with_capacity(alloc, count)?;
-    for _i in 0..count {
-        front.push(items.remove(0))?;
-    }
-    Ok(front)
+    let rest = items.split_off(count)?;
+    Ok(mem::replace(items, rest))
 }
 
 impl<L: Link + Drop> World for MemoryWorld<L> {
@@ -146,18 +160,24 @@ impl<L: Link + Drop> World for MemoryWorld<L> {
 
     ghost said = { λ world. told_list world.said.items world.said_whole };
 
-    fn bench(
-        &mut self,
-        store: Option<&StorePlan>,
-        links: u32,
-    ) -> Result<MemoryBench<L>, MakeFault> {
+    fn bench(&mut self, store: Option<&StorePlan>, links: u32) -> Result<MemoryBench<L>, MakeFault>
+        requires pauses { HasPauses (option_copied store) }
+        ensures links { IfOk result (λ bench. length bench.links ≡ link_count (option_copied store.entry) links) }
+        ensures next { IfOk result (λ bench. IfSome (next_parts self.old)
+            (λ told. bench ≡ with_links (link_count (option_copied store.entry) links) told)) }
+        ensures asks { Gains self.old.asks self.new.asks (ask.Bench (option_copied store.entry) links ∷ []) }
+        ensures cause { CountsFaults self.old.faults self.new.faults (IsErrOf result MakeFault.Store) }
+        ensures frame { (self.new.last ≡ self.old.last) × (said_of self.new ≡ said_of self.old) }
+        ensures hands { Hands (link_count (option_copied store.entry) links) result self.old self.new }
+        ensures faults { self.new.faults ≡ counted (make_failed result) self.old.faults }
+    {
         keep_ask(self.alloc, &mut self.asks, store, links);
         let count = links_of(store, links);
         if !self.has_parts(count) {
             self.faults = self.faults.saturating_add(1);
             return Err(MakeFault::Store);
         }
-        match take_front(self.alloc, &mut self.links, count) {
+        match take_front(&mut self.links, count) {
             Ok(links) => Ok(Bench {
                 links,
                 clock: self.clocks.remove(0),
@@ -172,13 +192,18 @@ impl<L: Link + Drop> World for MemoryWorld<L> {
     fn shut(&mut self, bench: MemoryBench<L>)
         ensures last { self.new.last ≡ Some bench }
         ensures faults { self.new.faults ≡ self.old.faults }
-        ensures frame { (self.new.asks ≡ self.old.asks) × (told_list self.new.said.items self.new.said_whole
-            ≡ told_list self.old.said.items self.old.said_whole) }
+        ensures frame { (self.new.asks ≡ self.old.asks) × (said_of self.new ≡ said_of self.old) }
+        ensures parts { KeepsParts self.old self.new }
     {
         self.last = Some(bench);
     }
 
-    fn say(&mut self, line: &[u8]) {
+    fn say(&mut self, line: &[u8])
+        ensures told { Gains (said_of self.old) (said_of self.new) (line.now ∷ []) }
+        ensures faults { self.new.faults ≡ self.old.faults }
+        ensures frame { (self.new.asks ≡ self.old.asks) × (self.new.last ≡ self.old.last) }
+        ensures parts { KeepsParts self.old self.new }
+    {
         match Text::of(self.alloc, line) {
             Ok(line) => {
                 if self.said.push(line).is_err() {

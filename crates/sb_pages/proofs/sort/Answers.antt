@@ -1,0 +1,11 @@
+use Rattle.std.proofs.Common.{rules}
+use Rattle.std.proofs.lemmas.Cmp.{nat_list_cmp_total}
+use Rattle.std.proofs.lemmas.List.Sorted.{ranks_by, answers_always}
+use Rattle.std.specs.Ordering.{nat_cmp, is_lt}
+use Rattle.std.specs.Cmp.Lexicographic.{slice_cmp}
+use Rattle.sb_pages.proofs.sort.Goals as goal
+
+pub returns-clause-sorted : goal.returns-clause-sorted
+returns-clause-sorted c =
+    c.sort_unstable_by.ensures.sorted (λ left right. is_lt (slice_cmp nat_cmp left right))
+    (ranks_by nat_list_cmp_total (λ name. name)) (answers_always _ _ _ (λ f a r g h. search rules))
