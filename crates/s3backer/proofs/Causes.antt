@@ -32,7 +32,7 @@ use Rattle.sb_session.specs.Sessions.{Course}
 use Rattle.s3backer.specs.Headline.{flush_status, run_status, NoneFailed, FailsByTime}
 
 -- a sum of nothing has nothing in it
-sum_nothing : (m n : ℕ) → m + n ≡ 0 → (m ≡ 0) × (n ≡ 0)
+pub sum_nothing : (m n : ℕ) → m + n ≡ 0 → (m ≡ 0) × (n ≡ 0)
 sum_nothing zero zero is = (refl, refl)
 sum_nothing zero (suc n) is = absurd (omega (arith, is))
 sum_nothing (suc m) n is = absurd (omega (arith, is))
@@ -43,7 +43,7 @@ none_risen before now zero quiet low = refl
 none_risen before now (suc n) quiet low =
     absurd (quiet (le_trans (min-le_left (before + 1) (2 ^ 64 - 1)) (omega (arith, low))))
 
-quiet_has_none : (before now : ℕ) (calls : List Call) → (Rose before now → ⊥) → Counts before now calls
+pub quiet_has_none : (before now : ℕ) (calls : List Call) → (Rose before now → ⊥) → Counts before now calls
     → failures calls ≡ 0
 quiet_has_none before now calls quiet counts = by counts.risen where
   by : (before + failures calls ≤ now) ⊎ (2 ^ 64 - 1 ≤ now) → failures calls ≡ 0
@@ -60,7 +60,7 @@ call_fails status (entry ∷ entries) (asked ∷ calls) cause none =
     let one : 1 + failures calls ≡ 0 = subst P cause.1 none in
     omega (arith, one)
 
-cause_fails : (base : Base) (status : ℕ) (deed : Deed) → HasCause base (StoreFault status) deed
+pub cause_fails : (base : Base) (status : ℕ) (deed : Deed) → HasCause base (StoreFault status) deed
     → failures deed.calls ≡ 0 → ⊥
 cause_fails base status deed cause none = call_fails status deed.entries deed.calls cause none
 

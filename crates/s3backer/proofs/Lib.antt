@@ -1,3 +1,4 @@
 pub mod Causes
 pub mod Sessions
 pub mod WordLemmas
+mod Completing

@@ -8,7 +8,7 @@ use Rattle.sb_world.specs.Told.{CountsFaults}
 use Rattle.sb_history.specs.AccessRules.{FollowsAccessRules}
 use Rattle.sb_history.specs.CachePolicy.{FollowsCachePolicy}
 use Rattle.sb_history.specs.ClockTrace.{ClockTrace}
-use Rattle.sb_history.specs.Laws.{SoundIsLegal, SoundFlushes, SoundSurvivesCrash}
+use Rattle.sb_history.specs.Laws.{SoundIsLegal, SoundFlushes, SoundSurvivesCrash, StaleIsYoung}
 use Rattle.sb_history.specs.Contents.{Start}
 use Rattle.sb_history.specs.Visibility.{Delays}
 use Rattle.sb_history.specs.Soundness.{IsSoundHistory}
@@ -31,10 +31,11 @@ use Rattle.sb_session.specs.Streams.{Streams}
 use Rattle.sb_session.specs.Handshakes.{transmission_flags}
 use Rattle.sb_session.specs.Sessions.{SessionTold}
 use Rattle.s3backer.proofs.Causes.{none_failed, ended_well}
+use Rattle.s3backer.proofs.Completing.{session_served, end_served}
 use Rattle.s3backer.specs.Fresh.{IsFresh}
 use Rattle.s3backer.specs.Plans.{PlanParts, naming_of, plan_base, default_settings}
 use Rattle.s3backer.specs.Views.{View}
-use Rattle.s3backer.specs.Headline.{IsWithin, IsHistory, IsSaved, ServesSession, run_status, run_line, ComplainsOf}
+use Rattle.s3backer.specs.Headline.{IsWithin, IsKind, IsHistory, IsSaved, ServesSession, run_status, run_line, ComplainsOf}
 
 -- a view of a scene, of the streams of a client, and of an error sink
 abbrev pub seen : Scene → Streams → ℕ → ℕ → Option (List ℕ) → ℕ → View
@@ -136,7 +137,7 @@ fresh_base plan core fresh =
 pub session_serves : (plan : PlanParts) (a b c : Scene) (streams streams' : Streams)
     (read written errors read' written' errors' : ℕ) (held held' : Option (List ℕ)) (ended : SessionEnd)
     (flushed : Result Unit FlushFault) (status : ℕ)
-    → SoundIsLegal → SoundFlushes → SoundSurvivesCrash → IsFresh plan.geometry a.disk.core
+    → SoundIsLegal → SoundFlushes → SoundSurvivesCrash → StaleIsYoung → IsFresh plan.geometry a.disk.core
     → a.disk.names ≡ naming_of plan
     → SessionTold (base_of a.disk.core) transmission_flags streams streams' (Did a b) ended
     → CountsFaults read read' (ended ≡ end.ReadFault) → CountsFaults written written' (ended ≡ end.WriteFault)
@@ -144,18 +145,30 @@ pub session_serves : (plan : PlanParts) (a b c : Scene) (streams streams' : Stre
     → ComplainsOf (run_line ended flushed) held held' errors errors'
     → ServesSession plan (seen a streams read written held errors) (seen c streams' read' written' held' errors') status
 session_serves plan a b c streams streams' read written errors read' written' errors' held held' ended flushed status
-    legal flushes survives fresh named session read_cause write_cause flush status_is complains =
+    legal flushes survives stale fresh named session read_cause write_cause flush status_is complains =
     let P : Base → Type 0 = λ base. SessionTold base transmission_flags streams streams' (Did a b) ended in
     let begun = fresh_base plan a.disk.core fresh in
     let told = subst P begun session in
     let ends = subst (λ (base : Base). FlushEnds base flushed flush.deed)
     (same_base_of told.done.runs.base ∙ begun) flush.ends in
     let did = did_join (λ past fits. fits) told.done flush.done in
+    let deed = followed told.deed flush.deed in
+    let history = history_of plan a c deed streams streams' read written errors read' written' errors' held held' legal
+    flushes survives fresh named did in
+    let sound : (start : Start) (delays : Delays) → IsKind plan start delays deed
+    → IsSoundHistory plan.geometry default_settings nothing_found start delays deed.entries =
+    λ start delays kind. record {
+      sized = kind.within.sized;
+      covers = kind.within.covers;
+      rules = history.rules;
+      policy = history.policy;
+      stale_within = kind.within.stale_within;
+      collision_free = kind.within.collision_free;
+    } in
     record {
       session = told.deed;
       flush = flush.deed;
-      history = history_of plan a c (followed told.deed flush.deed) streams streams' read written errors read' written'
-          errors' held held' legal flushes survives fresh named did;
+      history = history;
       ended = ended;
       course = told.course;
       read_cause = read_cause.rises;
@@ -173,4 +186,12 @@ session_serves plan a b c streams streams' read written errors read' written' er
           subst (λ (n : ℕ). (n ≡ 0) ⊎ ((n ≡ 12) ⊎ (n ≡ 11))) (sym status_is)
           (ended_well (plan_base plan) ended flushed flush.deed told.deed.calls a.faults c.faults ends quiet
           did.asked.counted read_cause.rises write_cause.rises unread unwritten refused spent);
+      all_served = λ start delays kind quiet.
+          session_served (plan_base plan) start delays stale kind.young told.course flush.deed a.faults c.faults
+          (sound start delays kind) kind.moves quiet did.asked.counted;
+      ends_served = λ start delays kind quiet unread unwritten refused spent.
+          subst (λ (n : ℕ). (n ≡ 0) ⊎ (n ≡ 12)) (sym status_is)
+          (end_served (plan_base plan) start delays stale kind.young ended flushed flush.deed told.deed.calls
+          told.deed.ticks a.faults c.faults ends kind.moves quiet did.asked.counted read_cause.rises write_cause.rises
+          unread unwritten refused spent);
     }

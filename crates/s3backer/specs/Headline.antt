@@ -1,5 +1,5 @@
 -- What a run of the program promises, of one list of entries and one list of calls. Lists are newest first.
-use Rattle.std.specs.Prelude.{ℕ, ◌≡◌, ◌≢◌, ◌⊎◌, List, [], ◌∷◌, ◌++◌, Option, Some, None, IfSome, Result, Ok, Err}
+use Rattle.std.specs.Prelude.{ℕ, ◌≡◌, ◌≢◌, ◌≤◌, ◌+◌, ◌⊎◌, List, [], ◌∷◌, ◌++◌, Option, Some, None, IfSome, Result, Ok, Err}
 use Rattle.std.specs.Prelude.{codes, decimal}
 use Rattle.std.specs.List.{AllByRecursion}
 use Rattle.std.proofs.Common.{inl, inr}
@@ -8,6 +8,8 @@ use Rattle.sb_base.specs.declared.entry.Entry.{Entry}
 use Rattle.sb_world.specs.Told.{Gains, Rose}
 use Rattle.sb_world.specs.Streams.{Holds}
 use Rattle.sb_world.specs.Benches.{BenchParts, with_links, shut_bench}
+use Rattle.sb_world.specs.declared.clock.Tick.{Tick}
+use Rattle.sb_world.specs.declared.clock.Tick.TheVariants as tick
 use Rattle.sb_world.specs.declared.world.Ask.{Ask}
 use Rattle.sb_world.specs.declared.world.Ask.TheVariants as ask
 use Rattle.sb_history.specs.Contents.{Start, FillBlocks}
@@ -22,7 +24,7 @@ use Rattle.sb_history.specs.ClockTrace.{ClockTrace}
 use Rattle.sb_history.specs.AccessRules.{FollowsAccessRules}
 use Rattle.sb_history.specs.CachePolicy.{FollowsCachePolicy}
 use Rattle.sb_core.specs.Represents.{nothing_found}
-use Rattle.sb_nbd.specs.Numbers.{eio}
+use Rattle.sb_nbd.specs.Numbers.{eio, enomem}
 use Rattle.sb_crew.specs.Bases.{Base}
 use Rattle.sb_crew.specs.Names.{name_of}
 use Rattle.sb_crew.specs.declared.calls.CallFault.{CallFault}
@@ -36,6 +38,8 @@ use Rattle.sb_crew.specs.Scenes.{Deed, followed}
 use Rattle.sb_session.specs.declared.end.SessionEnd.{SessionEnd}
 use Rattle.sb_session.specs.declared.end.SessionEnd.TheVariants as end
 use Rattle.sb_session.specs.Streams.{Streams}
+use Rattle.sb_session.specs.Goals.{refusal}
+use Rattle.sb_session.specs.Transcripts.{Exchange}
 use Rattle.sb_session.specs.Handshakes.{transmission_flags}
 use Rattle.sb_session.specs.Sessions.{Course}
 use Rattle.s3backer.specs.Plans.{PlanParts, naming_of, plan_base, default_settings}
@@ -138,6 +142,31 @@ abbrev pub NoneFailed : {base : Base} {transmission : ℕ} {before after : Strea
 NoneFailed (inl unserved) = Unit {0}
 NoneFailed {base} (inr served) = AllByRecursion (λ x. (x.error ≢ eio) ⊎ FailsByTime base x.deed) served.transcript
 
+-- each reading that was taken behind a pause is that of the pause's end or above it
+abbrev pub ClockMoves : List Tick → Type 0
+ClockMoves [] = Unit {0}
+ClockMoves (tick.Taken after ∷ tick.Paused millis ∷ tick.Taken before ∷ ticks) =
+    (before + millis ≤ after) × ClockMoves (tick.Taken before ∷ ticks)
+ClockMoves (newest ∷ ticks) = ClockMoves ticks
+
+-- what a run needs of the outside, beside streams and a store that don't fail, to serve all that isn't refused: a store
+-- within delays, of which no version is older than the stale limit, and a clock that moves by its pauses
+pub record IsKind (plan : PlanParts) (start : Start) (delays : Delays) (deed : Deed) : Type 0 where
+  pub within : IsWithin plan.geometry start delays deed.entries
+  pub young : delays.show ≤ default_settings.stale_limit
+  pub moves : ClockMoves deed.ticks
+
+-- a reply has no error, that of a refusal by the table, or that of want of memory
+abbrev pub IsServed : Base → Exchange → Type 0
+IsServed base x =
+    (x.error ≡ 0) ⊎ ((x.error ≡ enomem) ⊎ (refusal base.geometry x.request.wanted ≡ Some x.error))
+
+-- so each reply of a session
+abbrev pub AllServed : {base : Base} {transmission : ℕ} {before after : Streams} {ended : SessionEnd} {deed : Deed}
+    → Course base transmission before after ended deed → Type 0
+AllServed (inl unserved) = Unit {0}
+AllServed {base} (inr served) = AllByRecursion (IsServed base) served.transcript
+
 -- a session was served and the disk flushed then: the history of both, the session's course over the bytes, how it
 -- and the flush ended, and what was told of that
 pub record ServesSession (plan : PlanParts) (before after : View) (status : ℕ) : Type 0 where
@@ -163,6 +192,13 @@ pub record ServesSession (plan : PlanParts) (before after : View) (status : ℕ)
   pub ends_well : (Rose before.link_faults after.link_faults → ⊥) → (Rose before.read_faults after.read_faults → ⊥)
       → (Rose before.write_faults after.write_faults → ⊥) → ended ≢ end.Refused → ended ≢ end.Spent
       → (status ≡ 0) ⊎ ((status ≡ 12) ⊎ (status ≡ 11))
+  -- and where store and clock are kind each reply is one without error, a refusal or want of memory, and so is the end
+  pub all_served : (start : Start) (delays : Delays) → IsKind plan start delays (followed session flush)
+      → (Rose before.link_faults after.link_faults → ⊥) → AllServed course
+  pub ends_served : (start : Start) (delays : Delays) → IsKind plan start delays (followed session flush)
+      → (Rose before.link_faults after.link_faults → ⊥) → (Rose before.read_faults after.read_faults → ⊥)
+      → (Rose before.write_faults after.write_faults → ⊥) → ended ≢ end.Refused → ended ≢ end.Spent
+      → (status ≡ 0) ⊎ (status ≡ 12)
 
 -- the same gear, but for its error sink
 abbrev pub with_errors : {L C R S : Type 0} → Gear L C R S → S → Gear L C R S

@@ -32,7 +32,7 @@ use arrayvec::ArrayString;
 use sb_base::Geometry;
 use sb_core::Core;
 use sb_crew::{Alone, Calls, Desk, DeskRefused, FlushFault, Names};
-use sb_laws::{sound_flushes, sound_is_legal, sound_survives_crash};
+use sb_laws::{sound_flushes, sound_is_legal, sound_survives_crash, stale_is_young};
 use sb_session::{Buffer, SessionEnd, serve_alone};
 use sb_world::{Bench, Clock, Link, MakeFault, Meta, Sink, Source, Tape, World};
 use std::alloc::{AllocError, Global};
@@ -168,6 +168,7 @@ fn serve_disk<L: Link, C: Clock, R: Source, S: Sink, T: Tape>(
     sound_is_legal();
     sound_flushes();
     sound_survives_crash();
+    stale_is_young();
     let mut disk = Alone::new(core, names, tape);
     let end = serve_alone(&mut disk, &mut desk, &mut buffer, input, output);
     let flushed = disk.flush(&mut desk);

@@ -22,6 +22,7 @@ returns g c =
     (g.R.Source.faults c.args.input.now) (g.S.Sink.faults c.args.output.now) (g.S.Sink.faults c.args.errors.now)
     (g.R.Source.faults ended.new.source) (g.S.Sink.faults ended.new.sink) (g.S.Sink.faults c.complain_of.new.errors)
     (g.S.Sink.held c.args.errors.now) (g.S.Sink.held c.complain_of.new.errors) ended.result flushed.result
-    c.status_of.result c.sound_is_legal.ensures c.sound_flushes.ensures c.sound_survives_crash.ensures fresh
+    c.status_of.result c.sound_is_legal.ensures c.sound_flushes.ensures c.sound_survives_crash.ensures
+    c.stale_is_young.ensures fresh
     (c.new-disk.ensures.names ∙ c.requires.names) ended.ensures.told ended.ensures.read_cause
     ended.ensures.write_cause flushed.ensures.did c.status_of.ensures c.complain_of.ensures)
