@@ -9,7 +9,7 @@ use Rattle.std.proofs.lemmas.Bool.Decides.{nat_tests}
 use Rattle.sb_window.specs.declared.last_put.LastPut.{LastPut}
 use Rattle.sb_window.specs.LastPuts.{if_kept}
 use Rattle.sb_window.specs.Events.{last_put_of, count, PutsFit}
-use Rattle.sb_window.proofs.RowLemmas.{to_true, filter_short, sorted_head, sorted_tail, absent_below}
+use Rattle.sb_rows.specs.RowLaws.{to_true, filter_short, sorted_head, sorted_tail, absent_below}
 
 -- the rows of the first n blocks
 abbrev pub first_rows : ℕ → List (ℕ × LastPut) → List (ℕ × LastPut)

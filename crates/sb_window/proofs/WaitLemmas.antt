@@ -12,7 +12,7 @@ use Rattle.sb_window.specs.declared.window.PutWhen.TheVariants.{Now, At}
 use Rattle.sb_window.specs.LastPuts.{end_of, earlier, is_end_kept, if_kept, kept_puts, earliest_end}
 use Rattle.sb_window.specs.Windows.{WindowState, when_by, when_after, when_full, put_when, is_open, has_no_ending}
 use Rattle.sb_window.specs.Waits.{NoneOpen, HoldsEach, EndsAhead, WaitsEnd}
-use Rattle.sb_window.proofs.RowLemmas.{to_true}
+use Rattle.sb_rows.specs.RowLaws.{to_true}
 use Rattle.sb_window.proofs.CountLemmas.{first_rows, rows_next}
 use Rattle.sb_window.proofs.WindowLemmas.{entries_kept, kept_same, kept_fewer, some_past}
 use Rattle.sb_window.proofs.EventLemmas.{kept_earliest}
