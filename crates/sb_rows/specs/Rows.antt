@@ -1,5 +1,5 @@
 -- Rows by rising keys, and the place of a key among them.
-use Rattle.std.specs.Prelude.{ℕ, ◌≡◌, ◌<◌, ◌≤◌, List, Some, None, length, slice_index_or, slice_set}
+use Rattle.std.specs.Prelude.{Bool, if◌then◌else◌, ℕ, ◌≡◌, ◌<◌, ◌≤◌, List, Some, None, length, slice_index_or, slice_set}
 use Rattle.std.specs.List.{insert}
 use Rattle.std.specs.Ordering.{nat_cmp}
 use Rattle.std.specs.FinMap.{find, put}
@@ -16,3 +16,7 @@ pub record IsGapFor {X : Type 0} (rows : List (ℕ × X)) (key place : ℕ) : Ty
   pub in_range : place ≤ length rows
   pub absent : find nat_cmp key rows ≡ None
   pub inserted : (value : X) → put nat_cmp key value rows ≡ insert rows place (key, value)
+
+-- one where a fact holds
+abbrev pub one_if : Bool → ℕ
+one_if holds = if holds then 1 else 0
