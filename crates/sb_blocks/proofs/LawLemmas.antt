@@ -1,16 +1,14 @@
 -- How many entries a cache has after a change, and which one is dropped next.
-use Rattle.std.proofs.Common.{◌≡◌, ◌≢◌, ℕ, zero, suc, ◌<◌, ◌+◌, Bool, true, false, cond}
-use Rattle.std.proofs.Common.{length, Option, Some, None, is_some, refl, sym, ◌∙◌, ap, subst, arith}
-use Rattle.std.specs.Prelude.{nat_eq}
+use Rattle.std.proofs.Common.{◌≡◌, ℕ, zero, suc, ◌<◌, ◌+◌, Bool, true, false, cond}
+use Rattle.std.proofs.Common.{length, Option, Some, None, is_some, refl, sym, ◌∙◌, ap, arith}
 use Rattle.std.specs.List.{filter}
-use Rattle.std.specs.Ordering.{nat_cmp, eq_by_cmp}
+use Rattle.std.specs.Ordering.{nat_cmp}
 use Rattle.std.specs.Cmp.{nat_cmp_total}
 use Rattle.std.specs.FinMap.{find, get, insert, remove, len, entries, entries_sorted, get-entries, len-entries}
-use Rattle.std.specs.FinMap.{get-insert, get-remove, len-insert, entries-insert, same_map, nat_cmp-IsAntisymmetric}
-use Rattle.std.proofs.lemmas.Bool.{eqb-true, eqb-false}
-use Rattle.std.proofs.lemmas.Bool.Decides.{nat_tests}
+use Rattle.std.specs.FinMap.{len-insert, entries-insert}
 use Rattle.sb_history.specs.Eviction.{count}
 use Rattle.sb_rows.specs.Rows.{one_if}
+use Rattle.sb_rows.specs.RowLaws.{get_set, get_set_other, get_gone, get_gone_other, same_by}
 use Rattle.sb_rows.specs.RowLaws.{to_true, passing_put, passing_below, passing_next, passing_none, passing_all, rows_fewer}
 use Rattle.sb_blocks.specs.declared.cached.State.{State}
 use Rattle.sb_blocks.specs.declared.cached.Cached.{Cached}
@@ -18,49 +16,22 @@ use Rattle.sb_blocks.specs.Cached.{passes}
 use Rattle.sb_blocks.specs.Caches.{CachedBlocks, count_in}
 use Rattle.sb_blocks.specs.Laws.{SetsOne, RemovesOne, CountsHeld, CountsPassing, OnDisk, FreeForEach, CountsEach}
 
-keys_same : (k : ℕ) → eq_by_cmp nat_cmp k k ≡ true
-keys_same k = grind (arith, nat_tests)
-
-keys_apart : (k b : ℕ) → b ≢ k → eq_by_cmp nat_cmp b k ≡ false
-keys_apart k b other = grind (arith, nat_tests)
-
 pub sets_one : SetsOne
-sets_one cached block entry = (
-  get-insert nat_cmp_total cached block entry block
-      ∙ ap (λ t. cond t (Some entry) (get cached block)) (keys_same block),
-  λ other apart. get-insert nat_cmp_total cached block entry other
-      ∙ ap (λ t. cond t (Some entry) (get cached other)) (keys_apart block other apart),
-)
+sets_one cached block entry = (get_set cached block entry, get_set_other cached block entry)
 
 pub removes_one : RemovesOne
-removes_one cached block = (
-  get-remove nat_cmp_total cached block block ∙ ap (λ t. cond t None (get cached block)) (keys_same block),
-  λ other apart. get-remove nat_cmp_total cached block other
-      ∙ ap (λ t. cond t None (get cached other)) (keys_apart block other apart),
-)
+removes_one cached block = (get_gone cached block, get_gone_other cached block)
 
 -- what was removed is there again where it is set, and what isn't there stays so
 set_again : (cached : CachedBlocks) (block : ℕ) (entry : Cached) → get cached block ≡ Some entry
     → insert (remove cached block) block entry ≡ cached
 set_again cached block entry is =
-    same_map nat_cmp_total nat_cmp-IsAntisymmetric _ _ (λ q. by q (nat_eq q block) refl) where
-      by : (q : ℕ) (t : Bool) → nat_eq q block ≡ t → get (insert (remove cached block) block entry) q ≡ get cached q
-      by q true same =
-          let here : q ≡ block = eqb-true q block same in
-          subst (λ x. get (insert (remove cached block) block entry) x ≡ get cached x) (sym here)
-          ((sets_one (remove cached block) block entry).0 ∙ sym is)
-      by q false other =
-          let apart = eqb-false q block other in
-          (sets_one (remove cached block) block entry).1 q apart ∙ (removes_one cached block).1 q apart
+    same_by _ block cached (get_set (remove cached block) block entry ∙ sym is)
+    (λ q apart. get_set_other (remove cached block) block entry q apart ∙ get_gone_other cached block q apart)
 
 stays_gone : (cached : CachedBlocks) (block : ℕ) → get cached block ≡ None → remove cached block ≡ cached
 stays_gone cached block is =
-    same_map nat_cmp_total nat_cmp-IsAntisymmetric _ _ (λ q. by q (nat_eq q block) refl) where
-      by : (q : ℕ) (t : Bool) → nat_eq q block ≡ t → get (remove cached block) q ≡ get cached q
-      by q true same =
-          subst (λ x. get (remove cached block) x ≡ get cached x) (sym (eqb-true q block same))
-          ((removes_one cached block).0 ∙ sym is)
-      by q false other = (removes_one cached block).1 q (eqb-false q block other)
+    same_by _ block cached (get_gone cached block ∙ sym is) (get_gone_other cached block)
 
 -- how many entries pass a test
 counts_set : (test : State → Bool) (cached : CachedBlocks) (block : ℕ) (entry : Cached)
