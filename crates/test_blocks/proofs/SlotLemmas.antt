@@ -233,55 +233,9 @@ module _ (geometry : Geometry) (room : ℕ) (slots : List (Option Cached)) (old 
   pub enough_room : len old.cached ≤ room
   enough_room = let lens = ap len map_is in omega (arith, lens, shaped.enough)
 
--- by what is found
-pub changes : (old new : CacheState) (b : ℕ) (change : Cached → Cached) (held : Option Cached) (entry : Cached)
-    → held ≡ Some entry → new ≡ with_entry old b (change entry) → Changes old new b change held
-changes old new b change held entry is set = subst (Changes old new b change) (sym is) set
-
-pub never_none : (test : State → Bool) (held : Option Cached) → held ≡ None → passes test held ≡ true → ⊥
-never_none test None none is = cc
-never_none test (Some entry) none is = cc
-
-pub never_get : (held : Option Cached) → held ≡ None → is_some (get_in held) ≡ true → ⊥
-never_get None none is = cc
-never_get (Some entry) none is = cc
-
-pub never_put : (held : Option Cached) → held ≡ None → is_some (put_in held) ≡ true → ⊥
-never_put None none is = cc
-never_put (Some entry) none is = cc
-
-pub taken_length : (size : ℕ) (answer : Shown) → ShowsContent size answer
-    → length (answer_content size None answer) ≡ size
-taken_length size shown.Absent shows = length-replicate size 0
-taken_length size (shown.Bytes bytes) shows = shows
-taken_length size shown.Same shows = absurd shows
-taken_length size shown.Failed shows = absurd shows
-
 pub never_some : (held : Option Cached) → held ≡ None → is_some held ≡ true → ⊥
 never_some None none is = cc
 never_some (Some entry) none is = cc
-
-dirty_copies : (state : State) (body out : List ℕ) → is_dirty state ≡ true → out ≡ body
-    → CopiesBody (content_by state body) out
-dirty_copies (Reading get_) body out dirty is = absurd (cc)
-dirty_copies Clean body out dirty is = is
-dirty_copies (Dirty stamp since) body out dirty is = is
-dirty_copies (Writing put stamp) body out dirty is = is
-dirty_copies (Writing2 put stamp later since) body out dirty is = is
-
-pub copies : (held : Option Cached) (entry : Cached) (out : List ℕ) → held ≡ Some entry
-    → passes is_dirty held ≡ true → out ≡ entry.body → CopiesBody (content_in held) out
-copies held entry out is dirty so =
-    subst (λ (f : Option Cached). CopiesBody (content_in f) out) (sym is)
-    (dirty_copies entry.state entry.body out (sym (ap (passes is_dirty) is) ∙ dirty) so)
-
--- after a write
-pub after_held : (cache new : CacheState) (known_zero : Bool) (now place epoch : ℕ) (part : Part) (bytes : List ℕ)
-    (held : Option Cached) (entry : Cached) → held ≡ Some entry
-    → new ≡ with_entry cache part.block (written known_zero now place epoch part.offset bytes entry)
-    → new ≡ after_write cache known_zero now place epoch part bytes held
-after_held cache new known_zero now place epoch part bytes held entry is so =
-    so ∙ ap (after_write cache known_zero now place epoch part bytes) (sym is)
 
 -- a clean block of zeros
 abbrev pub clean_zeros : ℕ → Cached
@@ -321,7 +275,3 @@ pub may_miss : (cache : CacheState) (known_zero : Bool) (part : Part) (held : Op
     → MayWritePart cache known_zero part held → (held ≡ None) × (len cache.cached < cache.room)
 may_miss cache known_zero part None is may = (refl, may.0)
 may_miss cache known_zero part (Some entry) is may = absurd (cc)
-
-pub overlay_length : (content bytes : List ℕ) (offset : ℕ) → offset + length bytes ≤ length content
-    → length (overlay content offset bytes) ≡ length content
-overlay_length content bytes offset within = grind (arith, common_steps)

@@ -2,7 +2,8 @@ use Rattle.std.proofs.Common.{◌∙◌, ap, length, arith, ◌≤◌, ◌+◌}
 use Rattle.std.specs.FinMap.{get}
 use Rattle.sb_blocks.specs.declared.cached.Cached.{Cached}
 use Rattle.sb_blocks.specs.Caches.{with_entry}
-use Rattle.test_blocks.proofs.SlotLemmas.{on_slots, found, body_sized, set_shaped, set_view, never_some, after_held, overlay_length}
+use Rattle.test_blocks.proofs.SlotLemmas.{on_slots, found, body_sized, set_shaped, set_view, never_some}
+use Rattle.sb_blocks.specs.EntryLaws.{after_held, overlay_length}
 use Rattle.test_blocks.proofs.plain.Plain.write_held.Goals as goal
 
 pub write-requires : goal.write-requires

@@ -4,7 +4,8 @@ use Rattle.sb_blocks.specs.declared.cached.Cached.{Cached}
 use Rattle.sb_blocks.specs.Moves.{put_begun}
 use Rattle.sb_blocks.specs.Cached.{is_dirty}
 use Rattle.sb_blocks.specs.Caches.{with_entry}
-use Rattle.test_blocks.proofs.SlotLemmas.{copies, on_slots, found, body_sized, set_shaped, set_view, changes, never_none}
+use Rattle.test_blocks.proofs.SlotLemmas.{on_slots, found, body_sized, set_shaped, set_view}
+use Rattle.sb_blocks.specs.EntryLaws.{copies, changes, never_none}
 use Rattle.test_blocks.proofs.plain.PlainTable.begin_write.Goals as goal
 
 pub unreachable-requires : goal.unreachable-requires

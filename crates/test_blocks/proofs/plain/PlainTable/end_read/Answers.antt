@@ -5,8 +5,9 @@ use Rattle.sb_history.specs.Cache.{answer_content}
 use Rattle.sb_blocks.specs.declared.cached.Cached.{Cached}
 use Rattle.sb_blocks.specs.Moves.{taken, ShowsContent}
 use Rattle.sb_blocks.specs.Caches.{with_entry}
-use Rattle.test_blocks.proofs.SlotLemmas.{on_slots, found, body_sized, set_shaped, set_view, never_get}
-use Rattle.test_blocks.proofs.SlotLemmas.{taken_length}
+use Rattle.test_blocks.proofs.SlotLemmas.{on_slots, found, body_sized, set_shaped, set_view}
+use Rattle.sb_blocks.specs.EntryLaws.{never_get}
+use Rattle.sb_blocks.specs.EntryLaws.{taken_length}
 use Rattle.test_blocks.proofs.plain.PlainTable.end_read.Goals as goal
 
 pub take-requires : goal.take-requires

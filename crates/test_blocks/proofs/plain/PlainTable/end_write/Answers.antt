@@ -3,7 +3,8 @@ use Rattle.std.specs.FinMap.{get}
 use Rattle.sb_blocks.specs.declared.cached.Cached.{Cached}
 use Rattle.sb_blocks.specs.Moves.{put_ended}
 use Rattle.sb_blocks.specs.Caches.{with_entry}
-use Rattle.test_blocks.proofs.SlotLemmas.{on_slots, found, set_shaped, set_view, changes, never_put}
+use Rattle.test_blocks.proofs.SlotLemmas.{on_slots, found, set_shaped, set_view}
+use Rattle.sb_blocks.specs.EntryLaws.{changes, never_put}
 use Rattle.test_blocks.proofs.plain.PlainTable.end_write.Goals as goal
 
 pub unreachable-requires : goal.unreachable-requires

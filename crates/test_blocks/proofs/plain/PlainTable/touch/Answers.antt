@@ -4,7 +4,8 @@ use Rattle.sb_blocks.specs.declared.cached.Cached.{Cached}
 use Rattle.sb_blocks.specs.Moves.{touched}
 use Rattle.sb_blocks.specs.Cached.{is_held}
 use Rattle.sb_blocks.specs.Caches.{with_entry}
-use Rattle.test_blocks.proofs.SlotLemmas.{on_slots, found, set_shaped, set_view, changes, never_none}
+use Rattle.test_blocks.proofs.SlotLemmas.{on_slots, found, set_shaped, set_view}
+use Rattle.sb_blocks.specs.EntryLaws.{changes, never_none}
 use Rattle.test_blocks.proofs.plain.PlainTable.touch.Goals as goal
 
 pub unreachable-requires : goal.unreachable-requires
