@@ -4,7 +4,7 @@ ghost use Rattle.std.specs.Prelude.{◌≡◌, ◌<◌, length, true, IfOk};
 ghost use Rattle.sb_base.specs.Ranges.{IsPart};
 ghost use Rattle.sb_base.specs.Lines.{shown_of};
 ghost use Rattle.sb_blocks.specs.Moves.{ShowsContent};
-ghost use Rattle.test_blocks.specs.Looks.{IsOver, looks_held, looks_put};
+ghost use Rattle.test_blocks.specs.Looks.{IsOver};
 
 use crate::table::Table;
 use sb_base::{Answer, Geometry, Part};
@@ -104,32 +104,12 @@ fn middle(block: u32) -> Part
     }
 }
 
-/// Whether the body has a meaning.
-fn is_held(look: Look) -> bool
-    ensures { result ≡ looks_held look }
-{
-    match look {
-        Look::Missing | Look::Reading => false,
-        Look::Clean | Look::Dirty | Look::Writing | Look::Writing2 => true,
-    }
-}
-
-/// Whether a PUT is open.
-fn is_put(look: Look) -> bool
-    ensures { result ≡ looks_put look }
-{
-    match look {
-        Look::Writing | Look::Writing2 => true,
-        Look::Missing | Look::Reading | Look::Clean | Look::Dirty => false,
-    }
-}
-
 fn touch<T: Table>(table: &mut T, block: u32, at: Moment) -> bool
     requires over { IsOver (T.state table.old) }
     requires on_disk { block < 8 }
     ensures { IsOver (T.state table.new) }
 {
-    let may = is_held(table.look(block));
+    let may = table.look(block).is_held();
     if may {
         table.touch(at.now, at.place, block);
     }
@@ -199,7 +179,7 @@ fn write<T: Table>(
 {
     let may = match table.look(part.block) {
         Look::Missing => table.free() > 0 && (known_zero || part.length == 8),
-        other => is_held(other),
+        other => other.is_held(),
     };
     if may {
         table.write_part(at.now, at.place, at.epoch, part, bytes, known_zero)?;
@@ -227,7 +207,7 @@ fn end_put<T: Table>(table: &mut T, block: u32, at: Moment, ok: bool) -> bool
     requires on_disk { block < 8 }
     ensures { IsOver (T.state table.new) }
 {
-    let may = is_put(table.look(block));
+    let may = table.look(block).is_put();
     if may {
         table.end_write(block, at.now, ok);
     }
@@ -239,7 +219,7 @@ pub fn content<T: Table>(table: &T, block: u32) -> Option<[u8; 8]>
     requires over { IsOver (T.state table.now) }
     requires on_disk { block < 8 }
 {
-    if !is_held(table.look(block)) {
+    if !table.look(block).is_held() {
         return None;
     }
     let mut out = [0; 8];
