@@ -12,14 +12,20 @@ use sb_blocks::Blocks;
 use std::env;
 use works::{fill, reads, replaces, victims, writes};
 
+/// The most blocks that are cached.
+const MOST: u32 = 1_000_000;
+
 fn main(rt: HostRuntime) -> anyhow::Result<()> {
     let mut words = env::args(&rt)?.skip(1);
     let work = words.next().context("the work is wanted")?;
     let entries = number(words.next())?;
     let rounds = number(words.next())?;
+    if entries == 0 || entries > MOST {
+        bail!("from 1 to 1000000 entries are wanted");
+    }
     let geometry = Geometry {
         block_size: 4096,
-        blocks: entries.saturating_mul(2).max(1),
+        blocks: 2 * entries,
     };
     let mut blocks = Blocks::new(rt.alloc(), &geometry, entries)?;
     let mut body = vec![in rt.alloc(); 0; 4096]?;
@@ -28,7 +34,7 @@ fn main(rt: HostRuntime) -> anyhow::Result<()> {
         "read" => reads(&mut blocks, entries, rounds, &mut body),
         "write" => writes(&mut blocks, entries, rounds, &mut body),
         "victim" => victims(&blocks, rounds),
-        "replace" => replaces(&mut blocks, rounds, &mut body),
+        "replace" => replaces(&mut blocks, geometry.blocks, rounds, &mut body),
         _ => bail!("read, write, victim or replace is wanted"),
     };
     println!(rt; "{sum}")?;
