@@ -1,27 +1,17 @@
 -- How many blocks have a put that is kept.
-use Rattle.std.proofs.Common.{◌≡◌, ℕ, zero, suc, ◌≤◌, ◌+◌, Bool, true, false, cond, List, [], ◌∷◌, length, Option, Some}
+use Rattle.std.proofs.Common.{◌≡◌, ℕ, zero, suc, ◌≤◌, ◌+◌, Bool, true, false, cond, List, length, Option, Some}
 use Rattle.std.proofs.Common.{None, IsTrue, is_some, refl, sym, ap, ◌∙◌, arith}
-use Rattle.std.specs.Prelude.{nat_lt}
-use Rattle.std.specs.List.{filter}
+use Rattle.std.specs.Prelude.{nat_lt, ◌&&◌}
 use Rattle.std.specs.Ordering.{nat_cmp}
 use Rattle.std.specs.FinMap.{find, is_sorted, get, entries, entries_sorted, get-entries, len-entries}
-use Rattle.std.proofs.lemmas.Bool.Decides.{nat_tests}
 use Rattle.sb_window.specs.declared.last_put.LastPut.{LastPut}
 use Rattle.sb_window.specs.LastPuts.{if_kept}
 use Rattle.sb_window.specs.Events.{last_put_of, count, PutsFit}
-use Rattle.sb_window.proofs.RowLemmas.{to_true, filter_short, sorted_head, sorted_tail, absent_below}
+use Rattle.sb_rows.specs.RowLaws.{to_true, filter_short, passing_below, passing_next}
 
 -- the rows of the first n blocks
-abbrev pub first_rows : ℕ → List (ℕ × LastPut) → List (ℕ × LastPut)
-first_rows n es = filter (λ e. nat_lt e.0 n) es
-
-pub rows_next : (n : ℕ) (es : List (ℕ × LastPut)) → IsTrue (is_sorted nat_cmp es)
-    → length (first_rows (suc n) es) ≡ cond (is_some (find nat_cmp n es)) (1 + length (first_rows n es))
-    (length (first_rows n es))
-rows_next n [] sorted = refl
-rows_next n (e ∷ es) sorted =
-    let gone : n ≡ e.0 → find nat_cmp n es ≡ None = λ same. absent_below n es (rw same (sorted_head e es sorted)) in
-    grind (arith, nat_tests, rows_next n es (sorted_tail e es sorted), gone)
+abbrev first_rows : ℕ → List (ℕ × LastPut) → List (ℕ × LastPut)
+first_rows n es = passing_below {X = LastPut} is_some refl n es
 
 count_next : (b c : Bool) (counted rows next : ℕ) → (b ≡ true → c ≡ true) → counted ≤ rows
     → next ≡ cond c (1 + rows) rows → cond b (1 + counted) counted ≤ next
@@ -36,7 +26,7 @@ count_rows : (test : ℕ → Bool) (es : List (ℕ × LastPut)) → IsTrue (is_s
 count_rows test es sorted finds zero = omega arith
 count_rows test es sorted finds (suc n) =
     count_next (test n) _ (count test n) (length (first_rows n es)) _ (finds n) (count_rows test es sorted finds n)
-    (rows_next n es sorted)
+    (passing_next {X = LastPut} is_some refl n es sorted)
 
 some_held : (time now : ℕ) (held : Option LastPut) → is_some (if_kept time now held) ≡ true → is_some held ≡ true
 some_held time now None some = some
@@ -51,5 +41,6 @@ puts_fit window past now blocks le fits stands =
     let counted =
     count_rows (λ block. is_some (if_kept window.md5_time now (last_put_of past block))) (entries window.puts)
     (to_true _ (entries_sorted window.puts)) finds blocks in
-    let short = filter_short (λ e. nat_lt e.0 blocks) (entries window.puts) in
+    let held : ℕ × LastPut → Bool = λ e. nat_lt e.0 blocks && is_some (Some e.1) in
+    let short = filter_short held (entries window.puts) in
     omega (arith, counted, short, len-entries window.puts, fits)

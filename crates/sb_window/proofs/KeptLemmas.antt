@@ -10,7 +10,7 @@ use Rattle.std.specs.declared.cmp.Ordering.TheVariants.{Less, Equal, Greater}
 use Rattle.std.proofs.lemmas.Bool.Decides.{nat_tests}
 use Rattle.sb_window.specs.declared.last_put.LastPut.{LastPut}
 use Rattle.sb_window.specs.LastPuts.{end_of, is_end_kept, is_kept, earlier, earliest_end, EndBy, AllEndBy, if_kept}
-use Rattle.sb_window.proofs.RowLemmas.{filter_short, absent_below, sorted_head, sorted_tail}
+use Rattle.sb_rows.specs.RowLaws.{filter_short, absent_below, sorted_head, sorted_tail}
 
 -- the earlier of two ends is kept where both are
 pub kept_earlier : (time now : ℕ) (end other : Option ℕ)

@@ -1,4 +1,3 @@
-pub mod RowLemmas
 pub mod KeptLemmas
 pub mod WindowLemmas
 pub mod TableLemmas

@@ -1,10 +1,10 @@
 -- A put that may not begin yet may begin from a reading ahead on.
-use Rattle.std.proofs.Common.{◌≡◌, ◌≢◌, ℕ, zero, suc, ◌<◌, ◌≤◌, ◌+◌, Bool, true, false, cond, eqb, List, [], ◌∷◌}
+use Rattle.std.proofs.Common.{◌≡◌, ◌≢◌, ℕ, ◌<◌, ◌≤◌, ◌+◌, Bool, true, false, cond, List, [], ◌∷◌}
 use Rattle.std.proofs.Common.{length}
-use Rattle.std.proofs.Common.{Option, Some, None, IsTrue, is_some, refl, sym, ap, ◌∙◌, arith}
+use Rattle.std.proofs.Common.{Option, Some, None, is_some, refl, sym, ap, ◌∙◌, arith}
 use Rattle.std.specs.Prelude.{nat_lt, nat_eq}
 use Rattle.std.specs.Ordering.{nat_cmp, eq_by_cmp}
-use Rattle.std.specs.FinMap.{find, is_sorted, get, len, entries, entries_sorted, get-entries, len-entries}
+use Rattle.std.specs.FinMap.{find, get, len, entries, entries_sorted, get-entries, len-entries}
 use Rattle.std.proofs.lemmas.Bool.Decides.{nat_tests}
 use Rattle.sb_window.specs.declared.last_put.Ending.{Ending}
 use Rattle.sb_window.specs.declared.last_put.LastPut.{LastPut}
@@ -12,66 +12,9 @@ use Rattle.sb_window.specs.declared.window.PutWhen.TheVariants.{Now, At}
 use Rattle.sb_window.specs.LastPuts.{end_of, earlier, is_end_kept, if_kept, kept_puts, earliest_end}
 use Rattle.sb_window.specs.Windows.{WindowState, when_by, when_after, when_full, put_when, is_open, has_no_ending}
 use Rattle.sb_window.specs.Waits.{NoneOpen, HoldsEach, EndsAhead, WaitsEnd}
-use Rattle.sb_window.proofs.RowLemmas.{to_true}
-use Rattle.sb_window.proofs.CountLemmas.{first_rows, rows_next}
+use Rattle.sb_rows.specs.RowLaws.{to_true, rows_fewer}
 use Rattle.sb_window.proofs.WindowLemmas.{entries_kept, kept_same, kept_fewer, some_past}
 use Rattle.sb_window.proofs.EventLemmas.{kept_earliest}
-
--- the first n blocks have at most n rows, and fewer where one of them has none
-next_rows : (n few many : ℕ) (b : Bool) → few ≤ n → many ≡ cond b (1 + few) few → many ≤ suc n
-next_rows n few many true le is = omega arith
-next_rows n few many false le is = omega arith
-
-rows_zero : (es : List (ℕ × LastPut)) → length (first_rows 0 es) ≤ 0
-rows_zero [] = omega arith
-rows_zero (e ∷ es) = let past : nat_lt e.0 0 ≡ false = grind (arith, nat_tests) in rw past (rows_zero es)
-
-rows_within : (es : List (ℕ × LastPut)) → IsTrue (is_sorted nat_cmp es) → (n : ℕ) → length (first_rows n es) ≤ n
-rows_within es sorted zero = rows_zero es
-rows_within es sorted (suc n) =
-    next_rows n (length (first_rows n es)) (length (first_rows (suc n) es)) _ (rows_within es sorted n)
-    (rows_next n es sorted)
-
-spare_next : (n few many : ℕ) (b : Bool) → few < n → many ≡ cond b (1 + few) few → many < suc n
-spare_next n few many true lt is = omega arith
-spare_next n few many false lt is = omega arith
-
-rows_spare : (es : List (ℕ × LastPut)) → IsTrue (is_sorted nat_cmp es) → (block : ℕ) → find nat_cmp block es ≡ None
-    → (n : ℕ) → block < n → length (first_rows n es) < n
-rows_spare es sorted block none zero below = absurd (omega arith)
-rows_spare es sorted block none (suc n) below = by (λ before. rows_spare es sorted block none n before)
-    (eqb block n) refl
-  where
-    by : (block < n → length (first_rows n es) < n) → (t : Bool) → eqb block n ≡ t
-        → length (first_rows (suc n) es) < suc n
-    by fewer true is =
-        let same : block ≡ n = grind (arith, nat_tests) in
-        let gone : is_some (find nat_cmp n es) ≡ false = ap is_some (ap (λ b. find nat_cmp b es) (sym same) ∙ none) in
-        let next = rows_next n es sorted
-        ∙ ap (λ b. cond b (1 + length (first_rows n es)) (length (first_rows n es))) gone in
-        let within = rows_within es sorted n in
-        omega (arith, next, within)
-    by fewer false other =
-        let before : block < n = grind (arith, nat_tests) in
-        spare_next n (length (first_rows n es)) (length (first_rows (suc n) es)) (is_some (find nat_cmp n es))
-        (fewer before) (rows_next n es sorted)
-
--- where each row is of the first blocks they are all rows
-found_here : (e : ℕ × LastPut) (es : List (ℕ × LastPut)) → is_some (find nat_cmp e.0 (e ∷ es)) ≡ true
-found_here e es = grind (arith, nat_tests)
-
-found_later : (b : ℕ) (e : ℕ × LastPut) (es : List (ℕ × LastPut)) → is_some (find nat_cmp b es) ≡ true
-    → is_some (find nat_cmp b (e ∷ es)) ≡ true
-found_later b e es is = elim (eq_by_cmp nat_cmp b e.0) as
-    (λ t. is_some (cond t (Some e.1) (find nat_cmp b es)) ≡ true) [ true ↦ refl | false ↦ is ]
-
-all_rows : (blocks : ℕ) (es : List (ℕ × LastPut)) → ((b : ℕ) → is_some (find nat_cmp b es) ≡ true → b < blocks)
-    → first_rows blocks es ≡ es
-all_rows blocks [] within = refl
-all_rows blocks (e ∷ es) within =
-    let here : nat_lt e.0 blocks ≡ true = (let lt = within e.0 (found_here e es) in grind (arith, nat_tests)) in
-    ap (λ t. cond t (e ∷ first_rows blocks es) (first_rows blocks es)) here
-    ∙ ap (λ r. e ∷ r) (all_rows blocks es (λ b is. within b (found_later b e es is)))
 
 -- a window for each block has room for one that it has no put of
 spare : (window : WindowState) (blocks block : ℕ) → HoldsEach window blocks block → get window.puts block ≡ None
@@ -80,10 +23,9 @@ spare window blocks block each none =
     let es = entries window.puts in
     let within = λ (b : ℕ) (is : is_some (find nat_cmp b es) ≡ true).
     each.others b (ap is_some (get-entries window.puts b) ∙ is) in
-    let fewer = rows_spare es (to_true _ (entries_sorted window.puts)) block
-    (sym (get-entries window.puts block) ∙ none) blocks each.on_disk in
-    let all = ap length (all_rows blocks es within) in
-    omega (arith, fewer, all, len-entries window.puts, each.enough)
+    let fewer = rows_fewer blocks es (to_true _ (entries_sorted window.puts)) within block each.on_disk
+    (sym (get-entries window.puts block) ∙ none) in
+    omega (arith, fewer, len-entries window.puts, each.enough)
 
 -- the first of some rows that all have ended has an end
 ended_first : (es : List (ℕ × LastPut)) → 0 < length es

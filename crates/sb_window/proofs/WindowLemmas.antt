@@ -15,8 +15,8 @@ use Rattle.sb_window.specs.LastPuts.{LastPuts, end_of, is_end_kept, is_kept, kep
 use Rattle.sb_window.specs.LastPuts.{if_kept}
 use Rattle.sb_window.specs.Windows.{WindowState, window_of, IsWindow, put_when, when_new, when_by, when_full, is_open}
 use Rattle.sb_window.specs.Tables.{Table}
-use Rattle.sb_window.proofs.TableLemmas.{entries_rows, no_rows}
-use Rattle.sb_window.proofs.RowLemmas.{from_true, to_true, sorted_filter, filter_short}
+use Rattle.sb_rows.specs.RowLaws.{entries_rows, no_rows}
+use Rattle.sb_rows.specs.RowLaws.{from_true, to_true, sorted_filter, filter_short}
 use Rattle.sb_window.proofs.KeptLemmas.{all_kept, fewer_kept, found_goes, found_kept, found_by, filter_by, later_by}
 use Rattle.sb_window.proofs.KeptLemmas.{put_by}
 

@@ -1,7 +1,5 @@
 -- A table of last puts as contracts see it.
-use Rattle.std.specs.Prelude.{ℕ, ◌≡◌, ◌<◌, ◌≤◌, Bool, List, Option, Some, None, IsTrue, length, slice_index_or}
-use Rattle.std.specs.Prelude.{slice_set, refl}
-use Rattle.std.specs.List.{insert}
+use Rattle.std.specs.Prelude.{ℕ, ◌≤◌, Bool, List, Option, IsTrue, length, refl}
 use Rattle.std.specs.Coded.{Coded, code_by, coded×, coded_ℕ, coded_bool, coded_list, coded_option}
 use Rattle.std.specs.Ordering.{nat_cmp}
 use Rattle.std.specs.FinMap as map
@@ -37,15 +35,3 @@ table_code =
 pub record IsTable (room : ℕ) (rows : List (ℕ × LastPut)) : Type 0 where
   pub rising : IsTrue (map.is_sorted nat_cmp rows)
   pub fits : length rows ≤ room
-
--- the block's row is at this place
-pub record IsRowOf (rows : List (ℕ × LastPut)) (block place : ℕ) : Type 0 where
-  pub in_range : place < length rows
-  pub found : (d : ℕ × LastPut) → map.find nat_cmp block rows ≡ Some (slice_index_or rows place d).1
-  pub written : (put : LastPut) → map.put nat_cmp block put rows ≡ slice_set rows place (block, put)
-
--- no row is the block's, and it would be at this place
-pub record IsGapFor (rows : List (ℕ × LastPut)) (block place : ℕ) : Type 0 where
-  pub in_range : place ≤ length rows
-  pub absent : map.find nat_cmp block rows ≡ None
-  pub inserted : (put : LastPut) → map.put nat_cmp block put rows ≡ insert rows place (block, put)

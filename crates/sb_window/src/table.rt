@@ -1,12 +1,11 @@
 //! The last puts of some blocks, in a vector ordered by block.
 
-ghost use Rattle.std.specs.Prelude.{◌≡◌, ◌≤◌, IfOk, IfErr, IsTrue};
-ghost use Rattle.std.specs.Ordering.{nat_cmp};
+ghost use Rattle.std.specs.Prelude.{◌≡◌, ◌≤◌, IfOk};
 ghost use Rattle.std.specs.FinMap as map;
 ghost use Rattle.sb_window.specs.LastPuts.{earlier, earliest_end, kept_puts};
-ghost use Rattle.sb_window.specs.Tables.{IsRowOf, IsGapFor};
 
 use crate::last_put::LastPut;
+use sb_rows::place_of;
 use std::alloc::{AllocError, Global};
 use std::marker::Model;
 
@@ -95,15 +94,6 @@ impl PutTable {
     {
         earliest_end(&self.rows)
     }
-}
-
-/// The place of a block's row, or the place where it would stand.
-fn place_of(rows: &[(u32, LastPut)], block: u32) -> Result<usize, usize>
-    requires { IsTrue (map.is_sorted nat_cmp rows.now) }
-    ensures found { IfOk result (IsRowOf rows.now block) }
-    ensures absent { IfErr result (IsGapFor rows.now block) }
-{
-    rows.binary_search_by_key(&block, |row| row.0)
 }
 
 /// When the first of some puts ended, if any did.

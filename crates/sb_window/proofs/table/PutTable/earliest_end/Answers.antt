@@ -1,6 +1,6 @@
 use Rattle.std.proofs.Common.{ap}
 use Rattle.sb_window.specs.Tables.{Table}
-use Rattle.sb_window.proofs.TableLemmas.{entries_rows}
+use Rattle.sb_rows.specs.RowLaws.{entries_rows}
 use Rattle.sb_window.proofs.table.PutTable.earliest_end.Goals as goal
 
 pub returns : goal.returns

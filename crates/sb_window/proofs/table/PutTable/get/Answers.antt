@@ -1,6 +1,6 @@
 use Rattle.std.proofs.Common.{ap}
 use Rattle.sb_window.specs.Tables.{Table}
-use Rattle.sb_window.proofs.TableLemmas.{get_rows}
+use Rattle.sb_rows.specs.RowLaws.{get_rows}
 use Rattle.sb_window.proofs.table.PutTable.get.Goals as goal
 
 pub returns-in-Ok : goal.returns-in-Ok

@@ -1,6 +1,6 @@
 use Rattle.std.proofs.Common.{ap}
 use Rattle.sb_window.specs.Tables.{Table}
-use Rattle.sb_window.proofs.TableLemmas.{len_rows}
+use Rattle.sb_rows.specs.RowLaws.{len_rows}
 use Rattle.sb_window.proofs.table.PutTable.len.Goals as goal
 
 pub returns : goal.returns

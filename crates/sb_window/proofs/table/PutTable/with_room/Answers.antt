@@ -1,7 +1,7 @@
 use Rattle.std.proofs.Common.{ap}
 use Rattle.sb_window.specs.LastPuts.{LastPuts}
 use Rattle.sb_window.specs.Tables.{Table}
-use Rattle.sb_window.proofs.TableLemmas.{no_rows}
+use Rattle.sb_rows.specs.RowLaws.{no_rows}
 use Rattle.sb_window.proofs.table.PutTable.with_room.Goals as goal
 
 pub returns : goal.returns
