@@ -1,8 +1,10 @@
-//! Worlds in memory, for tests: stores, a folder, a clock, a tape and connections that tell all that they were asked.
+//! Worlds in memory, for tests: stores, a folder, a wire, a clock, a tape and connections that tell all that they were
+//! asked.
 //!
 //! A fake whose call has to grow a list, and has no fault to answer, tells nothing from a refused growth on.
 #![tactic(auto)]
 
+mod begun;
 mod clock;
 mod conn;
 mod content;
@@ -19,6 +21,7 @@ mod tape;
 #[cfg(test)]
 mod tests;
 mod timed;
+mod wire;
 mod world;
 
 pub use clock::HandClock;
@@ -29,4 +32,5 @@ pub use shared_clock::{SharedClock, SlowLink};
 pub use store::PlainStore;
 pub use tape::RecordTape;
 pub use timed::{Show, TimedStore};
+pub use wire::MemoryWire;
 pub use world::MemoryWorld;

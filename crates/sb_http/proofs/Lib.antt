@@ -7,3 +7,10 @@ pub mod PlainBodies
 pub mod HeadsRead
 pub mod RequestsSent
 pub mod ResponsesRead
+pub mod Fronts
+pub mod LineEnds
+pub mod Places
+pub mod ChunksAgree
+pub mod BodiesAgree
+pub mod HeadsAgree
+pub mod Agree

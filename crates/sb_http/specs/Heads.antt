@@ -9,17 +9,26 @@ use Rattle.httparse.specs.Grammar.{NeverHasResponse, MayBecomeResponse}
 use Rattle.httparse.specs.Spans.{IsResponseAt, IsResponseWithin, ResponseExceeds, ResponseOverflows, name_and_value}
 use Rattle.sb_world.specs.declared.wire.Connection.{Connection}
 use Rattle.sb_http.specs.declared.head.Head.{Head}
-use Rattle.sb_http.specs.declared.head.TheConstants.{MAX_HEAD, MAX_HEADERS, MAX_INTERIM}
 use Rattle.sb_http.specs.declared.fault.HttpFault.{HttpFault}
 use Rattle.sb_http.specs.declared.fault.HttpFault.TheVariants.{HeadCut, HeadTooLong, BadHead, TooManyHeaders}
 use Rattle.sb_http.specs.Fields.{pair_of}
 use Rattle.sb_http.specs.Takings.{Takes, IsOutside}
 
+-- the most bytes of a head, the most lines of fields in it, and the most interim responses that are passed over
+abbrev pub most_bytes : ℕ
+most_bytes = 16384
+
+abbrev pub most_lines : ℕ
+most_lines = 64
+
+abbrev pub most_interim : ℕ
+most_interim = 8
+
 -- a head of the grammar, within the limits
 pub record IsHead (h : ResponseHead) : Type 0 where
   pub grammar : IsResponseHead h
-  pub size : length (print_response h) ≤ MAX_HEAD
-  pub lines : length h.fields ≤ MAX_HEADERS
+  pub size : length (print_response h) ≤ most_bytes
+  pub lines : length h.fields ≤ most_lines
 
 -- an interim response goes before the one that counts
 abbrev pub is_interim : ℕ → Bool
@@ -38,22 +47,22 @@ Keeps head h =
 abbrev pub Parses : List ℕ → List HeaderSpan → Result (Option ResponseSpans) HttpFault → Type 0
 Parses bytes spans (Ok (Some found)) =
     (h : ResponseHead) × IsResponseAt bytes spans found h × IsResponseWithin bytes spans found
-    × (length h.fields ≤ MAX_HEADERS)
+    × (length h.fields ≤ most_lines)
 Parses bytes spans (Ok None) = HasNoResponse bytes × MayBecomeResponse bytes
 Parses bytes spans (Err BadHead) = NeverHasResponse bytes
-Parses bytes spans (Err TooManyHeaders) = ResponseExceeds MAX_HEADERS bytes × ResponseOverflows MAX_HEADERS bytes
+Parses bytes spans (Err TooManyHeaders) = ResponseExceeds most_lines bytes × ResponseOverflows most_lines bytes
 Parses bytes spans (Err fault) = ⊥
 
 -- how the reading ends at the bytes of a head that came, with these bytes left, at the input's end or before it
 abbrev pub EndsHead : List ℕ → List ℕ → Bool → HttpFault → Type 0
 EndsHead front left ended (HeadCut count) =
-    HasNoResponse front × MayBecomeResponse front × (length front < MAX_HEAD) × (count ≡ length front)
+    HasNoResponse front × MayBecomeResponse front × (length front < most_bytes) × (count ≡ length front)
     × (left ≡ []) × (ended ≡ true)
 EndsHead front left ended HeadTooLong =
-    HasNoResponse front × MayBecomeResponse front × (length front ≡ MAX_HEAD) × (ended ≡ false)
-EndsHead front left ended BadHead = NeverHasResponse front × (length front ≤ MAX_HEAD) × (ended ≡ false)
+    HasNoResponse front × MayBecomeResponse front × (length front ≡ most_bytes) × (ended ≡ false)
+EndsHead front left ended BadHead = NeverHasResponse front × (length front ≤ most_bytes) × (ended ≡ false)
 EndsHead front left ended TooManyHeaders =
-    ResponseExceeds MAX_HEADERS front × ResponseOverflows MAX_HEADERS front × (length front ≤ MAX_HEAD)
+    ResponseExceeds most_lines front × ResponseOverflows most_lines front × (length front ≤ most_bytes)
     × (ended ≡ false)
 EndsHead front left ended fault = IsOutside fault × (ended ≡ false)
 
@@ -69,7 +78,7 @@ pub record StopsInHead (before now : Option (List Connection)) (ahead : List ℕ
 abbrev pub FindsHead : Option (List Connection) → Option (List Connection) → List ℕ → List ℕ → List HeaderSpan
     → Result ResponseSpans HttpFault → Type 0
 FindsHead before now ahead waiting spans (Ok found) =
-    Parses waiting spans (Ok (Some found)) × (length waiting ≤ MAX_HEAD)
+    Parses waiting spans (Ok (Some found)) × (length waiting ≤ most_bytes)
     × Takes before now ahead [] waiting false
 FindsHead before now ahead waiting spans (Err fault) = StopsInHead before now ahead fault
 
@@ -81,14 +90,14 @@ TakesHead before now ahead left (Ok (Some head)) =
     × Takes before now ahead left (print_response h) false
 TakesHead before now ahead left (Ok None) =
     (h : ResponseHead) × IsInterim h × Takes before now ahead left (print_response h) false
-    × (length left ≤ MAX_HEAD)
+    × (length left ≤ most_bytes)
 TakesHead before now ahead left (Err fault) = StopsInHead before now ahead fault
 
 -- the reading ended in a head, or it was an interim response too many
 abbrev pub EndsHeads : ℕ → List ℕ → List ℕ → Bool → HttpFault → Type 0
 EndsHeads passed front left ended fault =
-    ((passed ≤ MAX_INTERIM) × EndsHead front left ended fault)
-    ⊎ ((passed ≡ MAX_INTERIM + 1) × (front ≡ []) × (fault ≡ BadHead) × (ended ≡ false))
+    ((passed ≤ most_interim) × EndsHead front left ended fault)
+    ⊎ ((passed ≡ most_interim + 1) × (front ≡ []) × (fault ≡ BadHead) × (ended ≡ false))
 
 -- the bytes of heads
 abbrev pub print_heads : List ResponseHead → List ℕ
@@ -98,7 +107,7 @@ print_heads heads = flat_map print_response heads
 abbrev pub ReadsHead : Option (List Connection) → Option (List Connection) → List ℕ → List ℕ → Result Head HttpFault
     → Type 0
 ReadsHead before now ahead left (Ok head) =
-    (passed : List ResponseHead) × All IsInterim passed × (length passed ≤ MAX_INTERIM)
+    (passed : List ResponseHead) × All IsInterim passed × (length passed ≤ most_interim)
     × (h : ResponseHead) × IsHead h × (is_interim (status_code h) ≡ false) × Keeps head h
     × Takes before now ahead left (print_heads passed ++ print_response h) false
 ReadsHead before now ahead left (Err fault) =

@@ -6,3 +6,4 @@ pub mod Bodies
 pub mod Fields
 pub mod Heads
 pub mod Responses
+pub mod Laws

@@ -1,6 +1,6 @@
 -- The lines round the chunks of a chunked body (RFC 9112, section 7.1).
 use Rattle.std.specs.Prelude.{ℕ, ◌≡◌, ◌≤◌, ◌<◌, ◌+◌, ◌-◌, ◌*◌, ◌^◌, ◌==◌, ◌⊎◌, min, if◌then◌else◌, true, false, List}
-use Rattle.std.specs.Prelude.{[], length, fold, Option, None, Result, Ok, Err}
+use Rattle.std.specs.Prelude.{[], ◌∷◌, ◌++◌, length, fold, Option, None, Result, Ok, Err}
 use Rattle.std.specs.Char.{is_ascii_hexdigit, digit_value}
 use Rattle.sb_world.specs.declared.wire.Connection.{Connection}
 use Rattle.sb_http.specs.declared.line.Line.{Line}
@@ -8,7 +8,6 @@ use Rattle.sb_http.specs.declared.line.Line.TheVariants.{Size, Digits, Extension
 use Rattle.sb_http.specs.declared.line.Line.TheVariants.{TrailerLine, TrailerReturn, TrailerText, TextReturn}
 use Rattle.sb_http.specs.declared.line.Step.{Step}
 use Rattle.sb_http.specs.declared.line.Step.TheVariants.{More, Done, Bad}
-use Rattle.sb_http.specs.declared.reading.TheConstants.{MAX_LINE}
 use Rattle.sb_http.specs.declared.fault.HttpFault.{HttpFault}
 use Rattle.sb_http.specs.declared.fault.HttpFault.TheVariants.{BodyCut, BadChunk}
 use Rattle.sb_http.specs.Takings.{Takes, IsOutside}
@@ -52,18 +51,28 @@ IsOpen (More line) = Unit {0}
 IsOpen (Done size) = ⊥
 IsOpen Bad = ⊥
 
+-- the most bytes of a line with its line end, and of a trailer
+abbrev pub most_of_line : ℕ
+most_of_line = 16384
+
 -- these bytes are the whole of it
 abbrev pub IsLine : Line → List ℕ → ℕ → Type 0
-IsLine line bytes size = (read_from line bytes ≡ Done size) × (length bytes ≤ MAX_LINE)
+IsLine line bytes size = (read_from line bytes ≡ Done size) × (length bytes ≤ most_of_line)
 
--- no continuation makes a line of these bytes, or they are too many
+-- the last byte is none that may follow those before it, of which there is more to read
+abbrev pub IsStuck : Line → List ℕ → Type 0
+IsStuck line bytes =
+    (front : List ℕ) × (byte : ℕ) × (bytes ≡ front ++ byte ∷ []) × IsOpen (read_from line front)
+    × (read_from line bytes ≡ Bad)
+
+-- no line, from their last byte on, or they are too many
 abbrev pub IsBadLine : Line → List ℕ → Type 0
-IsBadLine line bytes = (length bytes ≤ MAX_LINE)
-    × ((read_from line bytes ≡ Bad) ⊎ ((length bytes ≡ MAX_LINE) × IsOpen (read_from line bytes)))
+IsBadLine line bytes = (length bytes ≤ most_of_line)
+    × (IsStuck line bytes ⊎ ((length bytes ≡ most_of_line) × IsOpen (read_from line bytes)))
 
 -- these bytes begin a line
 abbrev pub IsCutLine : Line → List ℕ → Type 0
-IsCutLine line bytes = (length bytes < MAX_LINE) × IsOpen (read_from line bytes)
+IsCutLine line bytes = (length bytes < most_of_line) × IsOpen (read_from line bytes)
 
 -- a line was taken; or what is none, or the begin of one that the end cut, where so much of the body came before it
 abbrev pub ReadsLine : Option (List Connection) → Option (List Connection) → List ℕ → List ℕ → Line → ℕ

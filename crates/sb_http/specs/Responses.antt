@@ -8,17 +8,16 @@ use Rattle.sb_world.specs.Told.{Gains}
 use Rattle.sb_world.specs.declared.wire.Connection.{Connection}
 use Rattle.sb_http.specs.declared.framing.Framing.{Framing}
 use Rattle.sb_http.specs.declared.fault.HttpFault.{HttpFault}
-use Rattle.sb_http.specs.declared.head.TheConstants.{MAX_INTERIM}
+use Rattle.sb_http.specs.declared.fault.HttpFault.TheVariants.{WireFault}
 use Rattle.sb_http.specs.declared.response.Response.{Response}
-use Rattle.sb_http.specs.declared.response.TheConstants.{OTHER_LIMIT}
 use Rattle.sb_http.specs.Bodies.{IsBody}
 use Rattle.sb_http.specs.Fields.{pair_of, IsFraming}
-use Rattle.sb_http.specs.Heads.{EndsHeads, IsHead, IsInterim, is_interim, print_heads}
-use Rattle.sb_http.specs.Takings.{Takes, IsOutside}
+use Rattle.sb_http.specs.Heads.{EndsHeads, IsHead, IsInterim, is_interim, most_interim, print_heads}
+use Rattle.sb_http.specs.Takings.{Takes}
 
 -- the most bytes of a body at a status
 abbrev pub bound_of : ℕ → ℕ → ℕ
-bound_of status limit = if nat_le 200 status && nat_lt status 300 then limit else OTHER_LIMIT
+bound_of status limit = if nat_le 200 status && nat_lt status 300 then limit else 65536
 
 -- the fields of a head as they are kept
 abbrev pub pairs_of : ResponseHead → List Pair
@@ -27,7 +26,7 @@ pairs_of h = map pair_of (map name_and_value h.fields)
 -- the head that counts, behind those of interim responses
 pub record AreHeads (passed : List ResponseHead) (h : ResponseHead) : Type 0 where
   pub interim : All IsInterim passed
-  pub few : length passed ≤ MAX_INTERIM
+  pub few : length passed ≤ most_interim
   pub head : IsHead h
   pub final : is_interim (status_code h) ≡ false
 
@@ -114,13 +113,11 @@ SendsRequest before now bytes (Err fault) =
     Gains before now []
     ⊎ ((front behind : List ℕ) × (bytes ≡ front ++ behind) × Gains before now (connection front [] false ∷ []))
 
--- the request was not sent, or not whole
+-- the wire failed before the request was sent whole
 pub record IsUnsent (before now : Option (List Connection)) (request old new : List ℕ)
     (result : Result Response HttpFault) : Type 0 where
-  pub fault : HttpFault
-  pub failed : result ≡ Err fault
-  pub outside : IsOutside fault
-  pub sent : SendsRequest before now request (Err fault)
+  pub failed : result ≡ Err WireFault
+  pub sent : SendsRequest {E = HttpFault} before now request (Err WireFault)
   pub room : new ≡ old
 
 -- the request was sent, and these bytes received, to which this is the answer

@@ -1,7 +1,8 @@
 //! One exchange over a wire.
 
-ghost use Rattle.std.specs.Prelude.{◌≡◌, ◌++◌, IsErr, IsErrOf};
+ghost use Rattle.std.specs.Prelude.{◌≡◌, ◌++◌, [], IsErr, IsErrOf};
 ghost use Rattle.sb_world.specs.Told.{CountsFaults};
+ghost use Rattle.sb_world.specs.Wires.{Sends};
 ghost use Rattle.sb_http.specs.Responses.{Exchanges, SendsRequest};
 
 use crate::fault::HttpFault;
@@ -45,11 +46,26 @@ fn send_request<W: Wire>(wire: &mut W, head: &[u8], body: &[u8]) -> Result<(), W
         Ok(()) => {}
         Err(fault) => return Err(fault),
     }
-    match wire.send(head) {
+    match send_some(wire, head) {
         Ok(()) => {}
         Err(fault) => return Err(fault),
     }
-    match wire.send(body) {
+    match send_some(wire, body) {
+        Ok(()) => Ok(()),
+        Err(fault) => Err(fault),
+    }
+}
+
+/// Sends bytes, and asks the wire for nothing where there are none.
+fn send_some<W: Wire>(wire: &mut W, bytes: &[u8]) -> Result<(), WireFault>
+    ensures told { Sends (W.connections wire.old) (W.connections wire.new) result bytes.now }
+    ensures cause { CountsFaults (W.faults wire.old) (W.faults wire.new) (IsErr result) }
+    ensures none { bytes.now ≡ [] → wire.new ≡ wire.old }
+{
+    if bytes.is_empty() {
+        return Ok(());
+    }
+    match wire.send(bytes) {
         Ok(()) => Ok(()),
         Err(fault) => Err(fault),
     }

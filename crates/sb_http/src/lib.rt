@@ -11,6 +11,7 @@ mod fields;
 mod framing;
 mod head;
 mod incoming;
+mod laws;
 mod line;
 mod reading;
 mod receiving;
@@ -21,6 +22,7 @@ pub use exchanging::exchange;
 pub use fault::HttpFault;
 pub use framing::MAX_LENGTH;
 pub use head::{MAX_HEAD, MAX_HEADERS, MAX_INTERIM};
+pub use laws::{answers_agree, exchanges_agree};
 pub use reading::MAX_LINE;
 pub use response::{OTHER_LIMIT, Response};
 

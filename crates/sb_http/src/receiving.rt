@@ -1,6 +1,6 @@
 //! Receiving into a vector.
 
-ghost use Rattle.std.specs.Prelude.{◌≡◌, ◌<◌, length, take, IsErr, IsErrOf};
+ghost use Rattle.std.specs.Prelude.{◌≡◌, ◌<◌, Err, length, take, IsErr, IsErrOf};
 ghost use Rattle.sb_world.specs.Told.{CountsFaults};
 ghost use Rattle.sb_http.specs.Takings.{ReceivesBehind, ReceivesInto};
 
@@ -16,6 +16,7 @@ pub(crate) fn receive_into<W: Wire>(
     requires { 0 < most }
     ensures told { ReceivesInto (W.connections wire.old)
         (W.connections wire.new) out.old.items out.new.items most result }
+    ensures unasked { result ≡ Err HttpFault.Memory → wire.new ≡ wire.old }
     ensures cause { CountsFaults (W.faults wire.old) (W.faults wire.new) (IsErrOf result HttpFault.WireFault) }
 {
     let old = out.len();

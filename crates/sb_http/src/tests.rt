@@ -1,83 +1,37 @@
 //! Responses as stores send them, whole, in pieces and cut.
 
-ghost use Rattle.std.specs.Prelude.{◌≡◌, None};
+ghost use Rattle.std.specs.Prelude.{◌≡◌, ◌≢◌, ◌++◌, IfOk};
+ghost use Rattle.sb_fakes.specs.Connections.{sent_on};
+ghost use Rattle.sb_fakes.specs.Wires.{connections_of};
 
 use crate::{HttpFault, Response, exchange};
 use sb_base::Text;
-use sb_world::{Wire, WireFault};
+use sb_fakes::MemoryWire;
 use std::alloc::Global;
 use std::test::Fail;
 
-/// A wire that gives a text in pieces of a size, keeps what was sent, and fails at one of its calls, counted from 1.
-#[derive(Drop)]
-struct MemoryWire {
-    answer: Vec<u8>,
-    at: usize,
-    piece: usize,
-    sent: Vec<u8>,
-    calls: u64,
-    fails: u64,
-    faults: u64,
+/// A wire that gives this answer in pieces of a size, and fails at one of its calls, counted from 1.
+fn wire_of(alloc: Global, answer: &[u8], piece: u32, fails: u64) -> Result<MemoryWire, Fail>
+    requires { piece ≢ 0 }
+{
+    let mut answers = Vec::new(alloc);
+    answers.push(Text::of(alloc, answer)?)?;
+    let mut failing = Vec::new(alloc);
+    failing.push(fails)?;
+    Ok(MemoryWire::new(alloc, answers, piece, failing))
 }
 
-impl MemoryWire {
-    /// Counts a call, and tells whether it fails.
-    fn fails_now(&mut self) -> bool
-        ensures { self.new.faults ≡ self.old.faults }
-    {
-        self.calls = self.calls.saturating_add(1);
-        self.calls == self.fails
-    }
-}
-
-impl Wire for MemoryWire {
-    ghost connections = { λ _. None };
-
-    ghost faults = { λ w. w.faults };
-
-    fn connect(&mut self) -> Result<(), WireFault> {
-        if self.fails_now() {
-            self.faults = self.faults.saturating_add(1);
-            return Err(WireFault::Failed);
-        }
-        Ok(())
-    }
-
-    fn send(&mut self, bytes: &[u8]) -> Result<(), WireFault> {
-        if self.fails_now() || self.sent.extend_from_slice(bytes).is_err() {
-            self.faults = self.faults.saturating_add(1);
-            return Err(WireFault::Failed);
-        }
-        Ok(())
-    }
-
-    fn receive(&mut self, out: &mut [u8]) -> Result<usize, WireFault> {
-        if self.fails_now() {
-            self.faults = self.faults.saturating_add(1);
-            return Err(WireFault::Failed);
-        }
-        if self.at > self.answer.len() {
-            return Ok(0);
-        }
-        let left = &self.answer[self.at..];
-        let count = left.len().min(self.piece).min(out.len());
-        out[..count].copy_from_slice(&left[..count]);
-        self.at = self.at.saturating_add(count);
-        Ok(count)
-    }
-}
-
-/// A wire over an answer.
-fn wire_of(alloc: Global, answer: &[u8], piece: usize, fails: u64) -> Result<MemoryWire, Fail> {
-    Ok(MemoryWire {
-        answer: Vec::from_slice(alloc, answer)?,
-        at: 0,
-        piece,
-        sent: Vec::new(alloc),
-        calls: 0,
-        fails,
-        faults: 0,
-    })
+/// An exchange over a wire that tells its connections: where there is a response, the newest one has the request.
+fn exchange_told(
+    alloc: Global,
+    wire: &mut MemoryWire,
+    head: &[u8],
+    body: &[u8],
+    room: &mut Vec<u8>,
+) -> Result<Response, HttpFault>
+    ensures { IfOk result (λ _. sent_on (connections_of wire.new) ≡ head.now ++ body.now) }
+{
+    exchange(alloc, wire, head, body, false, 10, room)
 }
 
 /// What is told of an answer: its fault by name, and the numbers that it carries.
@@ -113,7 +67,9 @@ fn outcome_of(answer: &Result<Response, HttpFault>) -> Outcome {
 }
 
 /// The answer to these bytes in pieces, with the limit 10.
-fn outcome_to(alloc: Global, answer: &[u8], piece: usize) -> Result<Outcome, Fail> {
+fn outcome_to(alloc: Global, answer: &[u8], piece: u32) -> Result<Outcome, Fail>
+    requires { piece ≢ 0 }
+{
     let mut wire = wire_of(alloc, answer, piece, 0)?;
     let mut room = Vec::new(alloc);
     let answer = exchange(alloc, &mut wire, b"GET", b"", false, 10, &mut room);
@@ -286,7 +242,7 @@ fn a_response_keeps_its_fields_and_the_room_its_bytes(rt: HostRuntime) -> Result
         0,
     )?;
     let mut room = Vec::from_slice(rt.alloc(), b"old ")?;
-    let response = exchange(rt.alloc(), &mut wire, b"PUT", b" it", false, 10, &mut room)
+    let response = exchange_told(rt.alloc(), &mut wire, b"PUT", b" it", &mut room)
         .ok()
         .ok_or("a response")?;
     assert!(rt; response.headers.len() == 2);
@@ -294,7 +250,7 @@ fn a_response_keeps_its_fields_and_the_room_its_bytes(rt: HostRuntime) -> Result
     assert!(rt; tag.name.bytes() == b"etag".as_slice());
     assert!(rt; tag.value.bytes() == b"\"a\"".as_slice());
     assert!(rt; room.as_slice() == b"old hello".as_slice());
-    assert!(rt; wire.sent.as_slice() == b"PUT it".as_slice());
+    assert!(rt; wire.sent() == b"PUT it".as_slice());
     Ok(())
 }
 

@@ -50,7 +50,13 @@ returns-in-Bad-clause-told g c =
       takes_both before.3 told,
       (
         omega (arith, length-append before.0 (byte ∷ []), before.1, c.loop-count-test.true),
-        inl (read_more c.args.start before.0 c.loop-count.line byte before.2 ∙ sym c.after.ensures ∙ c.in-Bad.is),
+        inl (
+          before.0,
+          byte,
+          refl,
+          is_open _ c.loop-count.line before.2,
+          read_more c.args.start before.0 c.loop-count.line byte before.2 ∙ sym c.after.ensures ∙ c.in-Bad.is,
+        ),
       ),
       refl,
     )

@@ -1,0 +1,4 @@
+pub mod Slices
+pub mod NamesRead
+pub mod ItemsRead
+pub mod Agree

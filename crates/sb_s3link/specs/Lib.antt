@@ -1,0 +1,6 @@
+pub mod Entities
+pub mod Names
+pub mod Readings
+pub mod Items
+pub mod Listings
+pub mod Laws
