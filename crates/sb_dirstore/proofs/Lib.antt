@@ -1,2 +1,2 @@
 pub mod ObjectLemmas
-pub mod PageLemmas
+pub mod NameLemmas

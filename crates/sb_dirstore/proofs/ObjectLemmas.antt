@@ -1,13 +1,21 @@
 -- What a put of a folder's link makes of the objects.
-use Rattle.std.proofs.Common.{◌≡◌, ◌≢◌, ◌∙◌, ap, inl, inr, ℕ, Bool, true, false, List, codes, refl, if◌then◌else◌}
-use Rattle.std.specs.Prelude.{None, IsSome, Result, Ok, Err}
+use Rattle.std.proofs.Common.{◌≡◌, ◌≢◌, ◌∙◌, ap, sym, inl, inr, ℕ, Bool, true, false, not, List, ◌++◌, codes, refl}
+use Rattle.std.proofs.Common.{if◌then◌else◌, filter, slice_index_or}
+use Rattle.std.specs.Prelude.{None, IsSome, Result, Ok, Err, All, Contains}
+use Rattle.std.proofs.lemmas.Bool.{not-true, not_from_false, both_ways}
+use Rattle.std.proofs.lemmas.List.Elements.{All-from_recursion, recursion_from_All, All-filter, All-contains}
+use Rattle.std.proofs.lemmas.List.Elements.{filter_passes, Contains-append_cases}
+use Rattle.std.proofs.lemmas.List.Kept.{AllPairs-filter}
+use Rattle.std.proofs.lemmas.List.Sorted.{Contains-permutation, IsPermutation-filter_both}
+use Rattle.std.proofs.lemmas.Map.Made.{AllPairs-from_IsDistinct, IsDistinct-from_AllPairs}
+use Rattle.std.proofs.lemmas.Slice.Eq.{bytes_eq-Decides}
 use Rattle.std.specs.Option.{is_some}
 use Rattle.std.proofs.lemmas.Bool.{false_from_ne_true}
 use Rattle.std.proofs.lemmas.Bool.Decides.{Decides-eqb}
 use Rattle.std.proofs.lemmas.Slice.Eq.{ends_is}
 use Rattle.sb_world.specs.declared.link.LinkFault.{LinkFault}
-use Rattle.sb_world.specs.Folders.{Files, SparesOthers, SparesOthersThan}
-use Rattle.sb_dirstore.specs.Objects.{is_temporary, IsObjectName, temporary_of, objects_of, Puts}
+use Rattle.sb_world.specs.Folders.{Files, HasNames, SparesOthers, SparesOthersThan}
+use Rattle.sb_dirstore.specs.Objects.{is_temporary, is_object_name, IsObjectName, temporary_of, objects_of, Puts}
 use Rattle.sb_dirstore.specs.Objects.{PutsObject}
 
 -- the name of an object's temporary file is temporary
@@ -31,6 +39,43 @@ object_from_there files name there =
     false_from_ne_true (is_temporary name) (λ own.
     let none : objects_of files name ≡ None = rw own refl in
     cc (ap is_some none, there))
+
+-- what passes a test is kept by a filter
+Contains-filter : {X : Type 0} (test : X → Bool) (xs : List X) (x : X) → Contains xs x → test x ≡ true
+    → Contains (filter test xs) x
+Contains-filter {X} test xs x there passes =
+    let other = λ (y : X). not (test y) in
+    let both = Contains-permutation xs (filter test xs ++ filter other xs) x
+    (IsPermutation-filter_both test other (λ x. refl) xs) there in
+    elim (Contains-append_cases (filter test xs) (filter other xs) x both) [
+      | inl kept ↦ kept
+      | inr left_out ↦
+          let fails = All-contains (λ y. other y ≡ true) (filter other xs) x (filter_passes other xs) left_out in
+          absurd (both_ways (test x) (not-true (test x) fails) passes)
+    ]
+
+-- the names of a folder's files that are objects', each once
+pub HasNames-objects : (names : List (List ℕ)) (files : Files) → HasNames names files
+    → HasNames (filter is_object_name names) (objects_of files)
+HasNames-objects names files has =
+    let kept = filter is_object_name names in
+    let IsFile : List ℕ → Type 0 = λ name. IsSome (files name) in
+    let there : All IsFile names = All-from_recursion IsFile names has.each in
+    let asked : All (λ name. IsSome (objects_of files name)) kept =
+    λ k d below.
+    let object = not-true (is_temporary (slice_index_or kept k d)) (filter_passes is_object_name names k d below) in
+    ap is_some (objects_of-is files (slice_index_or kept k d) object)
+    ∙ All-filter is_object_name IsFile names there k d below in record {
+      each = recursion_from_All (λ name. IsSome (objects_of files name)) kept asked;
+      all = λ name some.
+          let object = object_from_there files name some in
+          Contains-filter is_object_name names name
+          (has.all name (ap is_some (sym (objects_of-is files name object)) ∙ some))
+          (not_from_false (is_temporary name) object);
+      once = IsDistinct-from_AllPairs bytes_eq-Decides kept
+          (AllPairs-filter (λ x y. x ≢ y) is_object_name names (AllPairs-from_IsDistinct bytes_eq-Decides names
+          has.once));
+    }
 
 -- where files change alike under names that may be an object's, objects do
 pub objects_of-same : (name : List ℕ) (old files : Files) → (IsObjectName name → files name ≡ old name)

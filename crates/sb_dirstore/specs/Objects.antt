@@ -1,22 +1,26 @@
 -- The objects in a folder, and what the calls of its link find and change.
-use Rattle.std.specs.Prelude.{ℕ, ◌≡◌, ◌≢◌, ◌⊎◌, Bool, false, if◌then◌else◌, List, ◌++◌, length, nat_eq, codes}
+use Rattle.std.specs.Prelude.{ℕ, ◌≡◌, ◌≢◌, ◌⊎◌, Bool, false, not, if◌then◌else◌, List, ◌++◌, length, nat_eq, codes}
 use Rattle.std.specs.Prelude.{Option, Some, None, IsSome, Result, Ok, Err, OnOk, OnErr}
 use Rattle.std.specs.List.{ends_with}
 use Rattle.md5.specs.Md5.{md5}
 use Rattle.sb_world.specs.Folders.{Files, Writes, Renames, SparesOthers}
 use Rattle.sb_world.specs.declared.folder.FolderFault.{FolderFault}
 use Rattle.sb_world.specs.declared.folder.FolderFault.TheVariants as folder
+use Rattle.sb_world.specs.declared.link.Call.{Call}
 use Rattle.sb_world.specs.declared.link.Got.{Got}
 use Rattle.sb_world.specs.declared.link.Got.TheVariants as got
 use Rattle.sb_world.specs.declared.link.HeadText.{HeadText}
 use Rattle.sb_world.specs.declared.link.LinkFault.{LinkFault}
 use Rattle.sb_world.specs.declared.link.LinkFault.TheVariants as fault
 use Rattle.sb_dirstore.specs.declared.dir_link.DirLink.{DirLink}
-use Rattle.sb_dirstore.specs.declared.files.TheConstants.{OTHER_LENGTH, FOLDER_FAILED}
 
 -- the folder of a link
 abbrev pub folder_of : {F : Type 0} → DirLink F → F
 folder_of link = link.folder
+
+-- the calls of a link, the newest first
+abbrev pub log_of : {F : Type 0} → DirLink F → List Call
+log_of link = link.log
 
 -- how often a link has failed
 abbrev pub faults_of : {F : Type 0} → DirLink F → ℕ
@@ -30,6 +34,10 @@ is_temporary name = ends_with nat_eq name (codes ".tmp")
 abbrev pub IsObjectName : List ℕ → Type 0
 IsObjectName name = is_temporary name ≡ false
 
+-- the same as a test
+abbrev pub is_object_name : List ℕ → Bool
+is_object_name name = not (is_temporary name)
+
 -- the name of an object's temporary file
 abbrev pub temporary_of : List ℕ → List ℕ
 temporary_of name = name ++ codes ".tmp"
@@ -38,9 +46,9 @@ temporary_of name = name ++ codes ".tmp"
 abbrev pub objects_of : Files → Files
 objects_of files name = if is_temporary name then None else files name
 
--- what a fault of the folder is at its link
+-- what a fault of the folder is at its link: status 605
 abbrev pub fault_at_link : FolderFault → LinkFault
-fault_at_link folder.Failed = fault.Failed FOLDER_FAILED
+fault_at_link folder.Failed = fault.Failed 605
 fault_at_link folder.Memory = fault.Memory
 
 -- a request failed for this cause, if it failed for another than memory
@@ -67,12 +75,19 @@ pub record HasOtherLength (count : ℕ) (object : Option (List ℕ)) : Type 0 wh
   pub there : object ≡ Some bytes
   pub differs : length bytes ≢ count
 
--- a GET answers what the object is, with its bytes in the buffer where they aren't the same
+-- a request failed since the folder failed: with status 605
+abbrev pub has_folder_failed : {T : Type 0} → Result T LinkFault → Bool
+has_folder_failed (Ok value) = false
+has_folder_failed (Err (fault.Failed status)) = nat_eq status 605
+has_folder_failed (Err fault.Memory) = false
+
+-- a GET answers what the object is, with its bytes in the buffer where they aren't the same; status 600 is another
+-- length
 abbrev pub Finds : Option (List ℕ) → Result Got LinkFault → List ℕ → Option (List ℕ) → Type 0
 Finds verify (Ok got.Absent) out object = object ≡ None
 Finds verify (Ok got.Bytes) out object = (object ≡ Some out) × HasAnotherDigest verify out
 Finds verify (Ok got.Same) out object = HasDigest verify (length out) object
-Finds verify (Err (fault.Failed status)) out object = status ≡ OTHER_LENGTH → HasOtherLength (length out) object
+Finds verify (Err (fault.Failed status)) out object = status ≡ 600 → HasOtherLength (length out) object
 Finds verify (Err fault.Memory) out object = Unit {0}
 
 -- a HEAD answers whether the object is there, with no text

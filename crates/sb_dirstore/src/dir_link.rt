@@ -1,18 +1,19 @@
 //! A folder as a link.
 
-ghost use Rattle.std.specs.Prelude.{◌≡◌, ◌⊎◌, Ok, Some, None, IfSome, IfOk, IsErrOf};
-ghost use Rattle.sb_world.specs.Told.{CountsFaults};
+ghost use Rattle.std.specs.Prelude.{◌≡◌, ◌⊎◌, Ok, Some, [], ◌∷◌, IfSome, IfOk};
+ghost use Rattle.sb_world.specs.Told.{Gains, CountsFaults, CountsJust};
 ghost use Rattle.sb_world.specs.Folders.{Becomes};
-ghost use Rattle.sb_world.specs.Calls.{HasFailed, IsAsked};
-ghost use Rattle.sb_dirstore.specs.Objects.{folder_of, faults_of, IsObjectName, objects_of, IfFailed, Finds};
-ghost use Rattle.sb_dirstore.specs.Objects.{FindsHead, Puts, PutsObject, DeletesObject};
-ghost use Rattle.sb_dirstore.specs.Listings.{IsPage};
+ghost use Rattle.sb_world.specs.Calls.{get_reply, head_reply, list_reply, fault_of};
+ghost use Rattle.sb_world.specs.Calls.{HasFailed, IsAsked, has_failed};
+ghost use Rattle.sb_world.specs.declared.link.Call.TheVariants as call;
+ghost use Rattle.sb_pages.specs.Listings.{IsPage};
+ghost use Rattle.sb_dirstore.specs.Objects.{folder_of, faults_of, log_of, IsObjectName, objects_of, IfFailed, Finds};
+ghost use Rattle.sb_dirstore.specs.Objects.{FindsHead, Puts, PutsObject, DeletesObject, has_folder_failed};
 
-use crate::files::{
-    FOLDER_FAILED, OTHER_LENGTH, head, list, read, read_unless_same, remove, replace,
-};
+use crate::files::{head, list, read, read_unless_same, remove, replace};
 use crate::names::place_temporary;
 use sb_base::Digest;
+use sb_log::GhostLog;
 use sb_world::{Folder, Got, HeadText, Link, LinkFault, Meta, Page};
 use std::alloc::Global;
 
@@ -26,6 +27,7 @@ pub struct DirLink<F> {
     /// Where an object is read to be compared.
     room: Vec<u8>,
     faults: u64,
+    log: GhostLog,
 }
 
 impl<F> DirLink<F> {
@@ -33,12 +35,14 @@ impl<F> DirLink<F> {
     pub fn new(alloc: Global, folder: F) -> DirLink<F>
         ensures folder { folder_of result ≡ folder }
         ensures faults { faults_of result ≡ 0 }
+        ensures log { log_of result ≡ [] }
     {
         DirLink {
             folder,
             temporary: Vec::new(alloc),
             room: Vec::new(alloc),
             faults: 0,
+            log: GhostLog::new(),
         }
     }
 
@@ -51,8 +55,9 @@ impl<F> DirLink<F> {
 
     /// Counts the fault of an answer.
     fn count<T>(&mut self, answer: &Result<T, LinkFault>)
-        ensures faults { CountsFaults self.old.faults self.new.faults (HasFailed answer.now) }
-        ensures folder { self.new.folder ≡ self.old.folder }
+        ensures cause { CountsFaults self.old.faults self.new.faults (HasFailed answer.now) }
+        ensures count { CountsJust self.old.faults self.new.faults (has_failed answer.now) }
+        ensures stays { (self.new.folder ≡ self.old.folder) × (self.new.log ≡ self.old.log) }
     {
         if let Err(LinkFault::Failed { .. }) = answer {
             self.faults = self.faults.saturating_add(1);
@@ -72,10 +77,9 @@ impl<F: Folder> DirLink<F> {
         ensures asked { IsAsked result verify }
         ensures unchanged { result ≡ Ok (Got.Same) → out.new ≡ out.old }
         ensures files { F.files self.new.folder ≡ F.files self.old.folder }
-        ensures cause { CountsFaults (F.faults self.old.folder) (F.faults self.new.folder)
-            (IsErrOf result (LinkFault.Failed FOLDER_FAILED)) }
-        ensures status { IfFailed result (λ status. (status ≡ OTHER_LENGTH) ⊎ (status ≡ FOLDER_FAILED)) }
-        ensures faults { self.new.faults ≡ self.old.faults }
+        ensures cause { CountsJust (F.faults self.old.folder) (F.faults self.new.folder) (has_folder_failed result) }
+        ensures status { IfFailed result (λ status. (status ≡ 600) ⊎ (status ≡ 605)) }
+        ensures stays { (self.new.faults ≡ self.old.faults) × (self.new.log ≡ self.old.log) }
     {
         match verify {
             None => read(&mut self.folder, name, out),
@@ -99,10 +103,9 @@ impl<F: Folder> DirLink<F> {
     fn store(&mut self, name: &[u8], body: &[u8]) -> Result<(), LinkFault>
         ensures told { Becomes (F.files self.old.folder) (F.files self.new.folder)
             (Puts name.now body.now result) }
-        ensures cause { CountsFaults (F.faults self.old.folder) (F.faults self.new.folder)
-            (IsErrOf result (LinkFault.Failed FOLDER_FAILED)) }
-        ensures status { IfFailed result (λ status. status ≡ FOLDER_FAILED) }
-        ensures faults { self.new.faults ≡ self.old.faults }
+        ensures cause { CountsJust (F.faults self.old.folder) (F.faults self.new.folder) (has_folder_failed result) }
+        ensures status { IfFailed result (λ status. status ≡ 605) }
+        ensures stays { (self.new.faults ≡ self.old.faults) × (self.new.log ≡ self.old.log) }
     {
         match place_temporary(name, &mut self.temporary) {
             Ok(()) => replace(&mut self.folder, self.temporary.as_slice(), name, body),
@@ -112,79 +115,99 @@ impl<F: Folder> DirLink<F> {
 }
 
 impl<F: Folder> Link for DirLink<F> {
-    ghost log = { λ _. None };
+    ghost log = { λ link. Some (log_of link) };
 
     ghost faults = { faults_of };
 
     fn get(&mut self, name: &[u8], verify: Option<Digest>, out: &mut [u8]) -> Result<Got, LinkFault>
+        ensures told { Gains (Some (log_of self.old)) (Some (log_of self.new))
+            (call.Get name.now verify (get_reply result out.new) ∷ []) }
         ensures found { IsObjectName name.now → IfSome (F.files (folder_of self.old))
             (λ files. Finds verify result out.new (objects_of files name.now)) }
         ensures asked { IsAsked result verify }
         ensures unchanged { result ≡ Ok (Got.Same) → out.new ≡ out.old }
         ensures files { F.files (folder_of self.new) ≡ F.files (folder_of self.old) }
         ensures cause { CountsFaults (faults_of self.old) (faults_of self.new) (HasFailed result) }
-        ensures folder { CountsFaults (F.faults (folder_of self.old)) (F.faults (folder_of self.new))
-            (IsErrOf result (LinkFault.Failed FOLDER_FAILED)) }
-        ensures status { IfFailed result (λ status. (status ≡ OTHER_LENGTH) ⊎ (status ≡ FOLDER_FAILED)) }
+        ensures count { CountsJust (faults_of self.old) (faults_of self.new) (has_failed result) }
+        ensures folder { CountsJust (F.faults (folder_of self.old)) (F.faults (folder_of self.new))
+            (has_folder_failed result) }
+        ensures status { IfFailed result (λ status. (status ≡ 600) ⊎ (status ≡ 605)) }
     {
         let answer = self.fetch(name, verify, out);
         self.count(&answer);
+        self.log.get(name, verify, answer, out);
         answer
     }
 
-    fn put(&mut self, name: &[u8], body: &[u8], _meta: Option<Meta>) -> Result<(), LinkFault>
+    fn put(&mut self, name: &[u8], body: &[u8], meta: Option<Meta>) -> Result<(), LinkFault>
+        ensures told { Gains (Some (log_of self.old)) (Some (log_of self.new))
+            (call.Put name.now body.now meta (fault_of result) ∷ []) }
         ensures files { Becomes (F.files (folder_of self.old)) (F.files (folder_of self.new))
             (Puts name.now body.now result) }
         ensures object { IsObjectName name.now → Becomes (F.files (folder_of self.old))
             (F.files (folder_of self.new)) (PutsObject name.now body.now result) }
         ensures cause { CountsFaults (faults_of self.old) (faults_of self.new) (HasFailed result) }
-        ensures folder { CountsFaults (F.faults (folder_of self.old)) (F.faults (folder_of self.new))
-            (IsErrOf result (LinkFault.Failed FOLDER_FAILED)) }
-        ensures status { IfFailed result (λ status. status ≡ FOLDER_FAILED) }
+        ensures count { CountsJust (faults_of self.old) (faults_of self.new) (has_failed result) }
+        ensures folder { CountsJust (F.faults (folder_of self.old)) (F.faults (folder_of self.new))
+            (has_folder_failed result) }
+        ensures status { IfFailed result (λ status. status ≡ 605) }
     {
         let answer = self.store(name, body);
         self.count(&answer);
+        self.log.put(name, body, meta, answer);
         answer
     }
 
     fn delete(&mut self, name: &[u8]) -> Result<(), LinkFault>
+        ensures told { Gains (Some (log_of self.old)) (Some (log_of self.new))
+            (call.Delete name.now (fault_of result) ∷ []) }
         ensures object { Becomes (F.files (folder_of self.old)) (F.files (folder_of self.new))
             (DeletesObject name.now result) }
         ensures cause { CountsFaults (faults_of self.old) (faults_of self.new) (HasFailed result) }
-        ensures folder { CountsFaults (F.faults (folder_of self.old)) (F.faults (folder_of self.new))
-            (IsErrOf result (LinkFault.Failed FOLDER_FAILED)) }
-        ensures status { IfFailed result (λ status. status ≡ FOLDER_FAILED) }
+        ensures count { CountsJust (faults_of self.old) (faults_of self.new) (has_failed result) }
+        ensures folder { CountsJust (F.faults (folder_of self.old)) (F.faults (folder_of self.new))
+            (has_folder_failed result) }
+        ensures status { IfFailed result (λ status. status ≡ 605) }
     {
         let answer = remove(&mut self.folder, name);
         self.count(&answer);
+        self.log.delete(name, answer);
         answer
     }
 
     fn head(&mut self, name: &[u8]) -> Result<Option<HeadText>, LinkFault>
+        ensures told { Gains (Some (log_of self.old)) (Some (log_of self.new))
+            (call.Head name.now (head_reply result) ∷ []) }
         ensures found { IsObjectName name.now → IfSome (F.files (folder_of self.old))
             (λ files. FindsHead result (objects_of files name.now)) }
         ensures files { F.files (folder_of self.new) ≡ F.files (folder_of self.old) }
         ensures cause { CountsFaults (faults_of self.old) (faults_of self.new) (HasFailed result) }
-        ensures folder { CountsFaults (F.faults (folder_of self.old)) (F.faults (folder_of self.new))
-            (IsErrOf result (LinkFault.Failed FOLDER_FAILED)) }
-        ensures status { IfFailed result (λ status. status ≡ FOLDER_FAILED) }
+        ensures count { CountsJust (faults_of self.old) (faults_of self.new) (has_failed result) }
+        ensures folder { CountsJust (F.faults (folder_of self.old)) (F.faults (folder_of self.new))
+            (has_folder_failed result) }
+        ensures status { IfFailed result (λ status. status ≡ 605) }
     {
         let answer = head(&mut self.folder, name);
         self.count(&answer);
+        self.log.head(name, &answer);
         answer
     }
 
     fn list(&mut self, prefix: &[u8], marker: &[u8], page: &mut Page) -> Result<bool, LinkFault>
+        ensures told { Gains (Some (log_of self.old)) (Some (log_of self.new))
+            (call.List prefix.now marker.now (list_reply result page.new) ∷ []) }
         ensures listed { IfSome (F.files (folder_of self.old))
             (λ files. IfOk result (λ more. IsPage prefix.now marker.now page.new more (objects_of files))) }
         ensures files { F.files (folder_of self.new) ≡ F.files (folder_of self.old) }
         ensures cause { CountsFaults (faults_of self.old) (faults_of self.new) (HasFailed result) }
-        ensures folder { CountsFaults (F.faults (folder_of self.old)) (F.faults (folder_of self.new))
-            (IsErrOf result (LinkFault.Failed FOLDER_FAILED)) }
-        ensures status { IfFailed result (λ status. status ≡ FOLDER_FAILED) }
+        ensures count { CountsJust (faults_of self.old) (faults_of self.new) (has_failed result) }
+        ensures folder { CountsJust (F.faults (folder_of self.old)) (F.faults (folder_of self.new))
+            (has_folder_failed result) }
+        ensures status { IfFailed result (λ status. status ≡ 605) }
     {
         let answer = list(&mut self.folder, prefix, marker, page);
         self.count(&answer);
+        self.log.list(prefix, marker, answer, page);
         answer
     }
 }

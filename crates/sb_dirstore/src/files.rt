@@ -1,12 +1,12 @@
 //! What a request does to the files of a folder.
 
-ghost use Rattle.std.specs.Prelude.{◌≡◌, ◌≢◌, ◌⊎◌, Ok, Some, None, IfSome, IfOk, IsErrOf, length};
+ghost use Rattle.std.specs.Prelude.{◌≡◌, ◌≢◌, ◌⊎◌, Ok, Some, None, IfSome, IfOk, length};
 ghost use Rattle.md5.specs.Md5.{md5};
-ghost use Rattle.sb_world.specs.Told.{CountsFaults};
+ghost use Rattle.sb_world.specs.Told.{CountsJust};
 ghost use Rattle.sb_world.specs.Folders.{Becomes};
 ghost use Rattle.sb_dirstore.specs.Objects.{fault_at_link, IfFailed, objects_of, temporary_of, Finds, FindsHead};
-ghost use Rattle.sb_dirstore.specs.Objects.{Puts, DeletesObject};
-ghost use Rattle.sb_dirstore.specs.Listings.{IsPage};
+ghost use Rattle.sb_dirstore.specs.Objects.{Puts, DeletesObject, has_folder_failed};
+ghost use Rattle.sb_pages.specs.Listings.{IsPage};
 
 use crate::listing::keep_page;
 use md5::Md5;
@@ -36,9 +36,8 @@ pub(crate) fn read<F: Folder>(folder: &mut F, name: &[u8], out: &mut [u8]) -> Re
     ensures read { IfSome (F.files folder.old) (λ files. Finds None result out.new (files name.now)) }
     ensures unasked { result ≢ Ok (Got.Same) }
     ensures files { F.files folder.new ≡ F.files folder.old }
-    ensures cause { CountsFaults (F.faults folder.old) (F.faults folder.new)
-        (IsErrOf result (LinkFault.Failed FOLDER_FAILED)) }
-    ensures status { IfFailed result (λ status. (status ≡ OTHER_LENGTH) ⊎ (status ≡ FOLDER_FAILED)) }
+    ensures cause { CountsJust (F.faults folder.old) (F.faults folder.new) (has_folder_failed result) }
+    ensures status { IfFailed result (λ status. (status ≡ 600) ⊎ (status ≡ 605)) }
 {
     match folder.read(name, out) {
         Ok(FileGot::Absent) => Ok(Got::Absent),
@@ -62,9 +61,8 @@ pub(crate) fn read_unless_same<F: Folder>(
     ensures read { IfSome (F.files folder.old) (λ files. Finds (Some digest) result out.new (files name.now)) }
     ensures unchanged { result ≡ Ok (Got.Same) → out.new ≡ out.old }
     ensures files { F.files folder.new ≡ F.files folder.old }
-    ensures cause { CountsFaults (F.faults folder.old) (F.faults folder.new)
-        (IsErrOf result (LinkFault.Failed FOLDER_FAILED)) }
-    ensures status { IfFailed result (λ status. (status ≡ OTHER_LENGTH) ⊎ (status ≡ FOLDER_FAILED)) }
+    ensures cause { CountsJust (F.faults folder.old) (F.faults folder.new) (has_folder_failed result) }
+    ensures status { IfFailed result (λ status. (status ≡ 600) ⊎ (status ≡ 605)) }
 {
     match read(folder, name, room) {
         Ok(Got::Bytes) => Ok(copy_unless_same(room, digest, out)),
@@ -98,9 +96,8 @@ fn digest_of(bytes: &[u8]) -> Digest
 pub(crate) fn head<F: Folder>(folder: &mut F, name: &[u8]) -> Result<Option<HeadText>, LinkFault>
     ensures read { IfSome (F.files folder.old) (λ files. FindsHead result (files name.now)) }
     ensures files { F.files folder.new ≡ F.files folder.old }
-    ensures cause { CountsFaults (F.faults folder.old) (F.faults folder.new)
-        (IsErrOf result (LinkFault.Failed FOLDER_FAILED)) }
-    ensures status { IfFailed result (λ status. status ≡ FOLDER_FAILED) }
+    ensures cause { CountsJust (F.faults folder.old) (F.faults folder.new) (has_folder_failed result) }
+    ensures status { IfFailed result (λ status. status ≡ 605) }
 {
     match folder.read(name, &mut []) {
         Ok(FileGot::Absent) => Ok(None),
@@ -121,9 +118,8 @@ pub(crate) fn replace<F: Folder>(
 ) -> Result<(), LinkFault>
     requires { temporary.now ≡ temporary_of name.now }
     ensures told { Becomes (F.files folder.old) (F.files folder.new) (Puts name.now body.now result) }
-    ensures cause { CountsFaults (F.faults folder.old) (F.faults folder.new)
-        (IsErrOf result (LinkFault.Failed FOLDER_FAILED)) }
-    ensures status { IfFailed result (λ status. status ≡ FOLDER_FAILED) }
+    ensures cause { CountsJust (F.faults folder.old) (F.faults folder.new) (has_folder_failed result) }
+    ensures status { IfFailed result (λ status. status ≡ 605) }
 {
     if let Err(fault) = folder.write(temporary, body) {
         return Err(link_fault(fault));
@@ -137,9 +133,8 @@ pub(crate) fn replace<F: Folder>(
 /// Removes a file, if it is there.
 pub(crate) fn remove<F: Folder>(folder: &mut F, name: &[u8]) -> Result<(), LinkFault>
     ensures told { Becomes (F.files folder.old) (F.files folder.new) (DeletesObject name.now result) }
-    ensures cause { CountsFaults (F.faults folder.old) (F.faults folder.new)
-        (IsErrOf result (LinkFault.Failed FOLDER_FAILED)) }
-    ensures status { IfFailed result (λ status. status ≡ FOLDER_FAILED) }
+    ensures cause { CountsJust (F.faults folder.old) (F.faults folder.new) (has_folder_failed result) }
+    ensures status { IfFailed result (λ status. status ≡ 605) }
 {
     match folder.remove(name) {
         Ok(_) => Ok(()),
@@ -157,9 +152,8 @@ pub(crate) fn list<F: Folder>(
     ensures listed { IfSome (F.files folder.old)
         (λ files. IfOk result (λ more. IsPage prefix.now marker.now page.new more (objects_of files))) }
     ensures files { F.files folder.new ≡ F.files folder.old }
-    ensures cause { CountsFaults (F.faults folder.old) (F.faults folder.new)
-        (IsErrOf result (LinkFault.Failed FOLDER_FAILED)) }
-    ensures status { IfFailed result (λ status. status ≡ FOLDER_FAILED) }
+    ensures cause { CountsJust (F.faults folder.old) (F.faults folder.new) (has_folder_failed result) }
+    ensures status { IfFailed result (λ status. status ≡ 605) }
 {
     match folder.list(page) {
         Ok(()) => Ok(keep_page(prefix, marker, page)),

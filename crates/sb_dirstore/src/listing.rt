@@ -1,50 +1,27 @@
-//! The pages of a listing.
+//! The pages of a folder's objects.
 
-ghost use Rattle.std.specs.Prelude.{◌≡◌, filter, IsPermutation, IsSorted};
-ghost use Rattle.std.specs.Ordering.{nat_cmp};
-ghost use Rattle.std.specs.Cmp.Lexicographic.{slice_cmp};
+ghost use Rattle.std.specs.Prelude.{◌≡◌, filter};
 ghost use Rattle.sb_world.specs.Folders.{Files, HasNames};
-ghost use Rattle.sb_dirstore.specs.Objects.{objects_of};
-ghost use Rattle.sb_dirstore.specs.Listings as listings;
-ghost use Rattle.sb_dirstore.specs.Listings.{IsPage};
+ghost use Rattle.sb_pages.specs.Listings.{IsPage};
+ghost use Rattle.sb_dirstore.specs.Objects.{is_object_name, objects_of};
 
 use crate::names::is_temporary;
 use sb_base::Text;
+use sb_pages::next_page;
 use sb_world::Page;
-
-/// How many names a page has at most.
-pub const PAGE_NAMES: usize = 1000;
 
 /// Makes the next page of all names of a folder, and answers whether more follow. It takes no memory.
 pub(crate) fn keep_page(prefix: &[u8], marker: &[u8], page: &mut Page) -> bool
     ensures { (files : Files) → HasNames page.old files →
         IsPage prefix.now marker.now page.new result (objects_of files) }
 {
-    keep_asked_for(prefix, marker, &mut page.keys);
-    sort(&mut page.keys);
-    let more = page.keys.len() > PAGE_NAMES;
-    page.keys.truncate(PAGE_NAMES);
-    more
+    drop_temporary(&mut page.keys);
+    next_page(prefix, marker, page)
 }
 
-/// Drops the names that a listing isn't asked for.
-fn keep_asked_for(prefix: &[u8], marker: &[u8], names: &mut Vec<Text>)
-    ensures { names.new.items ≡ filter (listings.is_asked_for prefix.now marker.now) names.old.items }
+/// Drops the names that are the folder's own.
+fn drop_temporary(names: &mut Vec<Text>)
+    ensures { names.new.items ≡ filter is_object_name names.old.items }
 {
-    names.retain(|name| is_asked_for(prefix, marker, name.bytes()));
-}
-
-/// Tells whether a name may be an object's, begins with the prefix and stands after the marker.
-fn is_asked_for(prefix: &[u8], marker: &[u8], name: &[u8]) -> bool
-    ensures { result ≡ listings.is_asked_for prefix.now marker.now name.now }
-{
-    !is_temporary(name) && name.starts_with(prefix) && name > marker
-}
-
-/// Puts names in byte order.
-fn sort(names: &mut Vec<Text>)
-    ensures moved { IsPermutation names.old.items names.new.items }
-    ensures sorted { IsSorted (slice_cmp nat_cmp) names.new.items }
-{
-    names.sort_unstable_by(|left, right| left.bytes().cmp(right.bytes()));
+    names.retain(|name| !is_temporary(name.bytes()));
 }

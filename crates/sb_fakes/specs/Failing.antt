@@ -1,10 +1,6 @@
 -- Which calls of a fake are to fail, and how its faults are counted.
 use Rattle.std.specs.Prelude.{ℕ, ◌+◌, ◌-◌, ◌^◌, min, Bool, true, false, nat_eq, Result, Ok, Err}
 use Rattle.std.specs.List.{list_any}
-use Rattle.sb_world.specs.declared.link.LinkFault.{LinkFault}
-use Rattle.sb_world.specs.declared.link.LinkFault.TheVariants as fault
-use Rattle.sb_world.specs.declared.folder.FolderFault.{FolderFault}
-use Rattle.sb_world.specs.declared.folder.FolderFault.TheVariants as folder
 use Rattle.sb_world.specs.declared.world.MakeFault.{MakeFault}
 use Rattle.sb_world.specs.declared.world.MakeFault.TheVariants as make
 use Rattle.sb_fakes.specs.declared.faults.Faults.{Faults}
@@ -29,18 +25,6 @@ answered failed faults = record {
 -- the next call is among those that are to fail
 abbrev pub fails_next : Faults → Bool
 fails_next faults = list_any (λ call. nat_eq call (one_more faults.calls)) faults.planned.items
-
--- a request failed for another cause than memory
-abbrev pub has_failed : {T : Type 0} → Result T LinkFault → Bool
-has_failed (Ok value) = false
-has_failed (Err (fault.Failed status)) = true
-has_failed (Err fault.Memory) = false
-
--- a folder's call failed for another cause than memory
-abbrev pub folder_failed : {T : Type 0} → Result T FolderFault → Bool
-folder_failed (Ok value) = false
-folder_failed (Err folder.Failed) = true
-folder_failed (Err folder.Memory) = false
 
 -- a bench wasn't made for another cause than memory
 abbrev pub make_failed : {T : Type 0} → Result T MakeFault → Bool

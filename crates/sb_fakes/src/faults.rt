@@ -1,8 +1,8 @@
 //! Which calls of a fake fail.
 
-ghost use Rattle.std.specs.Prelude.{◌≡◌, false};
-ghost use Rattle.sb_world.specs.Told.{CountsFaults};
-ghost use Rattle.sb_fakes.specs.Failing as failing;
+ghost use Rattle.std.specs.Prelude.{◌≡◌, true, false};
+ghost use Rattle.sb_world.specs.Told.{CountsJust};
+ghost use Rattle.sb_world.specs.Calls as calls;
 ghost use Rattle.sb_fakes.specs.Failing.{fails_next, answered, one_more};
 
 use sb_world::LinkFault;
@@ -43,7 +43,7 @@ impl Faults {
           calls = self.old.calls;
           count = one_more self.old.count;
         } }
-        ensures cause { CountsFaults self.old.count self.new.count (Unit {0}) }
+        ensures cause { CountsJust self.old.count self.new.count true }
     {
         self.count = self.count.saturating_add(1);
     }
@@ -51,7 +51,7 @@ impl Faults {
 
 /// Tells whether a request failed for another cause than memory.
 pub(crate) fn has_failed<T>(answer: &Result<T, LinkFault>) -> bool
-    ensures { result ≡ failing.has_failed answer.now }
+    ensures { result ≡ calls.has_failed answer.now }
 {
     matches!(answer, Err(LinkFault::Failed { .. }))
 }

@@ -1,12 +1,12 @@
 //! A folder in memory.
 
-ghost use Rattle.std.specs.Prelude.{◌≡◌, ◌/◌, Ok, Some, IfOk, IsErrOf, MatchResult, length};
+ghost use Rattle.std.specs.Prelude.{◌≡◌, ◌/◌, true, Ok, Some, IfOk, MatchResult, length};
 ghost use Rattle.std.specs.Option.{option_copied};
-ghost use Rattle.sb_world.specs.Told.{CountsFaults};
-ghost use Rattle.sb_world.specs.Folders.{Becomes, Reads, Writes, Renames, Removes, Lists};
+ghost use Rattle.sb_world.specs.Told.{CountsJust};
+ghost use Rattle.sb_world.specs.Folders.{Becomes, Reads, Writes, Renames, Removes, Lists, folder_failed};
 ghost use Rattle.sb_world.specs.declared.folder.FolderFault.{FolderFault};
 ghost use Rattle.sb_fakes.specs.Objects.{bodies_of, count_of};
-ghost use Rattle.sb_fakes.specs.Failing.{fails_next, answered, folder_failed, one_more};
+ghost use Rattle.sb_fakes.specs.Failing.{fails_next, answered, one_more};
 ghost use Rattle.sb_fakes.specs.Folders.{left_of, MayHaveBody, Moves, MayMove, WritesOrLeaves, RenamesOrLeaves};
 ghost use Rattle.sb_fakes.specs.Folders.{RemovesOrFails, FailsAsPlanned};
 
@@ -90,7 +90,7 @@ impl MemoryFolder {
           calls = self.old.faults.calls;
           count = one_more self.old.faults.count;
         } }
-        ensures cause { CountsFaults self.old.faults.count self.new.faults.count (Unit {0}) }
+        ensures cause { CountsJust self.old.faults.count self.new.faults.count true }
         ensures stays { (self.new.files ≡ self.old.files) × (self.new.left ≡ self.old.left) }
     {
         self.faults.add();
@@ -184,7 +184,7 @@ impl Folder for MemoryFolder {
         ensures length { length out.new ≡ length out.old }
         ensures told { Reads name.now result out.new (bodies_of self.old.files.items) }
         ensures files { self.new.files ≡ self.old.files }
-        ensures cause { CountsFaults self.old.faults.count self.new.faults.count (IsErrOf result FolderFault.Failed) }
+        ensures cause { CountsJust self.old.faults.count self.new.faults.count (folder_failed result) }
         ensures planned { FailsAsPlanned (fails_next self.old.faults) result }
         ensures faults { self.new.faults ≡ answered (folder_failed result) self.old.faults }
         ensures left { self.new.left ≡ self.old.left }
@@ -198,7 +198,7 @@ impl Folder for MemoryFolder {
     fn write(&mut self, name: &[u8], body: &[u8]) -> Result<(), FolderFault>
         ensures told { Becomes (Some (bodies_of self.old.files.items)) (Some (bodies_of self.new.files.items))
             (Writes name.now body.now result) }
-        ensures cause { CountsFaults self.old.faults.count self.new.faults.count (IsErrOf result FolderFault.Failed) }
+        ensures cause { CountsJust self.old.faults.count self.new.faults.count (folder_failed result) }
         ensures files { WritesOrLeaves (fails_next self.old.faults) self.old.left name.now body.now result
             (bodies_of self.old.files.items) (bodies_of self.new.files.items) }
         ensures faults { self.new.faults ≡ answered (folder_failed result) self.old.faults }
@@ -219,7 +219,7 @@ impl Folder for MemoryFolder {
     fn rename(&mut self, from: &[u8], to: &[u8]) -> Result<(), FolderFault>
         ensures told { Becomes (Some (bodies_of self.old.files.items)) (Some (bodies_of self.new.files.items))
             (Renames from.now to.now result) }
-        ensures cause { CountsFaults self.old.faults.count self.new.faults.count (IsErrOf result FolderFault.Failed) }
+        ensures cause { CountsJust self.old.faults.count self.new.faults.count (folder_failed result) }
         ensures files { RenamesOrLeaves (fails_next self.old.faults) self.old.left from.now to.now result
             (bodies_of self.old.files.items) (bodies_of self.new.files.items) }
         ensures faults { self.new.faults ≡ answered (folder_failed result) self.old.faults }
@@ -245,7 +245,7 @@ impl Folder for MemoryFolder {
     fn remove(&mut self, name: &[u8]) -> Result<bool, FolderFault>
         ensures told { Becomes (Some (bodies_of self.old.files.items)) (Some (bodies_of self.new.files.items))
             (Removes name.now result) }
-        ensures cause { CountsFaults self.old.faults.count self.new.faults.count (IsErrOf result FolderFault.Failed) }
+        ensures cause { CountsJust self.old.faults.count self.new.faults.count (folder_failed result) }
         ensures files { RemovesOrFails (fails_next self.old.faults) name.now result
             (bodies_of self.old.files.items) (bodies_of self.new.files.items) }
         ensures faults { self.new.faults ≡ answered (folder_failed result) self.old.faults }
@@ -262,7 +262,7 @@ impl Folder for MemoryFolder {
     fn list(&mut self, page: &mut Page) -> Result<(), FolderFault>
         ensures told { Lists page.new result (bodies_of self.old.files.items) }
         ensures files { self.new.files ≡ self.old.files }
-        ensures cause { CountsFaults self.old.faults.count self.new.faults.count (IsErrOf result FolderFault.Failed) }
+        ensures cause { CountsJust self.old.faults.count self.new.faults.count (folder_failed result) }
         ensures planned { FailsAsPlanned (fails_next self.old.faults) result }
         ensures faults { self.new.faults ≡ answered (folder_failed result) self.old.faults }
         ensures left { self.new.left ≡ self.old.left }

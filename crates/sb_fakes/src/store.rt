@@ -3,11 +3,11 @@
 ghost use Rattle.std.specs.Prelude.{◌≡◌, ◌≢◌, Ok, Some, [], ◌∷◌, IfOk, MatchResult};
 ghost use Rattle.std.specs.Option.{option_copied, option_map};
 ghost use Rattle.sb_world.specs.Told.{Gains, CountsFaults};
+ghost use Rattle.sb_world.specs.Calls as calls;
 ghost use Rattle.sb_world.specs.Calls.{get_reply, head_reply, list_reply, fault_of, HasFailed, IsAsked};
 ghost use Rattle.sb_world.specs.declared.link.Call.TheVariants as call;
 ghost use Rattle.sb_pages.specs.Listings.{IsPage};
 ghost use Rattle.sb_fakes.specs.Failing.{counted};
-ghost use Rattle.sb_fakes.specs.Failing as failing;
 ghost use Rattle.sb_fakes.specs.Objects.{bodies_of, body_in, texts_of, HasBody, HasNoBody, Heads, Lists, Puts, Shows};
 
 use crate::content::{Content, fetch};
@@ -90,7 +90,7 @@ impl PlainStore {
 
     /// Counts the fault of an answer.
     fn count<T>(&mut self, answer: &Result<T, LinkFault>)
-        ensures faults { self.new.faults ≡ counted (failing.has_failed answer.now) self.old.faults }
+        ensures faults { self.new.faults ≡ counted (calls.has_failed answer.now) self.old.faults }
         ensures cause { CountsFaults self.old.faults self.new.faults (HasFailed answer.now) }
         ensures stays { (self.new.objects ≡ self.old.objects) × (self.new.log ≡ self.old.log) }
     {
@@ -112,7 +112,7 @@ impl Link for PlainStore {
             (call.Get name.now verify (get_reply result out.new) ∷ []) }
         ensures cause { CountsFaults self.old.faults self.new.faults (HasFailed result) }
         ensures shows { Shows verify (body_in (bodies_of self.old.objects.items name.now)) result out.new }
-        ensures faults { self.new.faults ≡ counted (failing.has_failed result) self.old.faults }
+        ensures faults { self.new.faults ≡ counted (calls.has_failed result) self.old.faults }
         ensures objects { self.new.objects ≡ self.old.objects }
     {
         let content = body_of(&self.objects, name);

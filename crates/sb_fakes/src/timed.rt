@@ -3,9 +3,9 @@
 ghost use Rattle.std.specs.Prelude.{◌≡◌, false, Ok, Some, None, [], ◌∷◌, IfOk, OnOk, OnErr};
 ghost use Rattle.std.specs.Option.{option_copied};
 ghost use Rattle.sb_world.specs.Told.{Gains, CountsFaults};
+ghost use Rattle.sb_world.specs.Calls as calls;
 ghost use Rattle.sb_world.specs.Calls.{get_reply, head_reply, list_reply, fault_of, HasFailed, IsAsked};
 ghost use Rattle.sb_world.specs.declared.link.Call.TheVariants as call;
-ghost use Rattle.sb_fakes.specs.Failing as failing;
 ghost use Rattle.sb_fakes.specs.Failing.{fails_next, answered, counted, one_more};
 ghost use Rattle.sb_fakes.specs.Versions as versions;
 ghost use Rattle.sb_fakes.specs.Versions.{versions_of, chosen_of, shown_version, Answers, Changes};
@@ -208,7 +208,7 @@ impl TimedStore {
         ensures faults { self.new.faults ≡ record {
           planned = self.old.faults.planned;
           calls = self.old.faults.calls;
-          count = counted (failing.has_failed answer.now) self.old.faults.count;
+          count = counted (calls.has_failed answer.now) self.old.faults.count;
         } }
         ensures cause { CountsFaults self.old.faults.count self.new.faults.count (HasFailed answer.now) }
         ensures stays { KeepsObjects self.old self.new × (self.new.log ≡ self.old.log) × (self.new.gets ≡ self.old.gets) }
@@ -243,7 +243,7 @@ impl Link for TimedStore {
             (call.Get name.now verify (get_reply result out.new) ∷ []) }
         ensures cause { CountsFaults self.old.faults.count self.new.faults.count (HasFailed result) }
         ensures shows { Answers (fails_next self.old.faults) verify (shown_version self.old name.now) result out.new }
-        ensures faults { self.new.faults ≡ answered (failing.has_failed result) self.old.faults }
+        ensures faults { self.new.faults ≡ answered (calls.has_failed result) self.old.faults }
         ensures stays { KeepsObjects self.old self.new × (self.new.gets ≡ one_more self.old.gets) }
     {
         let answer = self.show(name, verify, out);
@@ -258,7 +258,7 @@ impl Link for TimedStore {
         ensures cause { CountsFaults self.old.faults.count self.new.faults.count (HasFailed result) }
         ensures kept { Changes (fails_next self.old.faults) name.now (Some (record { body = body.now; meta = meta }))
             result (versions_of self.old.histories.items) (versions_of self.new.histories.items) }
-        ensures faults { self.new.faults ≡ answered (failing.has_failed result) self.old.faults }
+        ensures faults { self.new.faults ≡ answered (calls.has_failed result) self.old.faults }
         ensures stays { KeepsChoices self.old self.new × (self.new.gets ≡ self.old.gets) }
     {
         let answer = self.store(name, body, meta);
@@ -272,7 +272,7 @@ impl Link for TimedStore {
         ensures cause { CountsFaults self.old.faults.count self.new.faults.count (HasFailed result) }
         ensures kept { Changes (fails_next self.old.faults) name.now None result
             (versions_of self.old.histories.items) (versions_of self.new.histories.items) }
-        ensures faults { self.new.faults ≡ answered (failing.has_failed result) self.old.faults }
+        ensures faults { self.new.faults ≡ answered (calls.has_failed result) self.old.faults }
         ensures stays { KeepsChoices self.old self.new × (self.new.gets ≡ self.old.gets) }
     {
         let answer = self.change(name, None);
@@ -285,7 +285,7 @@ impl Link for TimedStore {
         ensures told { Gains self.old.log self.new.log (call.Head name.now (head_reply result) ∷ []) }
         ensures cause { CountsFaults self.old.faults.count self.new.faults.count (HasFailed result) }
         ensures found { HeadAnswers (fails_next self.old.faults) (versions.newest_texts self.old name.now) result }
-        ensures faults { self.new.faults ≡ answered (failing.has_failed result) self.old.faults }
+        ensures faults { self.new.faults ≡ answered (calls.has_failed result) self.old.faults }
         ensures stays { KeepsObjects self.old self.new × (self.new.gets ≡ self.old.gets) }
     {
         let answer = self.texts(name);
@@ -299,7 +299,7 @@ impl Link for TimedStore {
             (call.List prefix.now marker.now (list_reply result page.new) ∷ []) }
         ensures cause { CountsFaults self.old.faults.count self.new.faults.count (HasFailed result) }
         ensures listed { ListAnswers (fails_next self.old.faults) result }
-        ensures faults { self.new.faults ≡ answered (failing.has_failed result) self.old.faults }
+        ensures faults { self.new.faults ≡ answered (calls.has_failed result) self.old.faults }
         ensures stays { KeepsObjects self.old self.new × (self.new.gets ≡ self.old.gets) }
     {
         let answer = self.names(prefix, marker, page);

@@ -1,10 +1,10 @@
 -- The answers of a link as its log has them.
-use Rattle.std.specs.Prelude.{ℕ, Bool, List, Option, Some, None, Result, Ok, Err, IsErrOf}
+use Rattle.std.specs.Prelude.{ℕ, Bool, true, false, List, Option, Some, None, Result, Ok, Err, IsErrOf}
 use Rattle.sb_world.specs.declared.link.Got.{Got}
 use Rattle.sb_world.specs.declared.link.Got.TheVariants as got
 use Rattle.sb_world.specs.declared.link.HeadText.{HeadText}
 use Rattle.sb_world.specs.declared.link.LinkFault.{LinkFault}
-use Rattle.sb_world.specs.declared.link.LinkFault.TheVariants.{Failed}
+use Rattle.sb_world.specs.declared.link.LinkFault.TheVariants.{Failed, Memory}
 use Rattle.sb_world.specs.declared.link.GetReply.{GetReply}
 use Rattle.sb_world.specs.declared.link.GetReply.TheVariants as get
 use Rattle.sb_world.specs.declared.link.HeadReply.{HeadReply}
@@ -38,6 +38,12 @@ fault_of (Err fault) = Some fault
 -- a request failed for another cause than memory
 abbrev pub HasFailed : {T : Type 0} → Result T LinkFault → Type 0
 HasFailed result = (status : ℕ) × IsErrOf result (Failed status)
+
+-- the same as a test
+abbrev pub has_failed : {T : Type 0} → Result T LinkFault → Bool
+has_failed (Ok value) = false
+has_failed (Err (Failed status)) = true
+has_failed (Err Memory) = false
 
 -- a digest is answered only where one was given
 abbrev pub IsAsked : {D : Type 0} → Result Got LinkFault → Option D → Type 0

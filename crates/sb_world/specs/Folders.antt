@@ -1,10 +1,12 @@
 -- What the files of a folder are, and how its calls change them.
-use Rattle.std.specs.Prelude.{ℕ, ◌≡◌, ◌≢◌, Bool, List, Option, Some, None, IsSome, Result, Ok, Err, length, nat_eq}
+use Rattle.std.specs.Prelude.{ℕ, ◌≡◌, ◌≢◌, Bool, true, false, List, Option, Some, None, IsSome, Result, Ok, Err, length, nat_eq}
 use Rattle.std.specs.Option.{is_some}
 use Rattle.std.specs.Cmp.Lexicographic.{pointwise}
 use Rattle.std.specs.List.{AllByRecursion, Contains, IsDistinct}
 use Rattle.sb_world.specs.declared.folder.FileGot.{FileGot}
 use Rattle.sb_world.specs.declared.folder.FileGot.TheVariants as got
+use Rattle.sb_world.specs.declared.folder.FolderFault.{FolderFault}
+use Rattle.sb_world.specs.declared.folder.FolderFault.TheVariants as fault
 
 -- the bytes of each file by its name, none where there is no such file
 abbrev pub Files : Type 0
@@ -56,3 +58,9 @@ pub record HasNames (names : List (List ℕ)) (files : Files) : Type 0 where
 abbrev pub Lists : {E : Type 0} → List (List ℕ) → Result Unit E → Files → Type 0
 Lists names (Ok done) files = HasNames names files
 Lists names (Err fault) files = Unit {0}
+
+-- a folder's call failed for another cause than memory
+abbrev pub folder_failed : {T : Type 0} → Result T FolderFault → Bool
+folder_failed (Ok value) = false
+folder_failed (Err fault.Failed) = true
+folder_failed (Err fault.Memory) = false

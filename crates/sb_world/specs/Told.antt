@@ -1,5 +1,5 @@
 -- What an object of the outside tells, and when it may fail.
-use Rattle.std.specs.Prelude.{ℕ, ◌≡◌, ◌+◌, ◌-◌, ◌^◌, ◌≤◌, min, List, ◌++◌, Option, Some}
+use Rattle.std.specs.Prelude.{ℕ, ◌≡◌, ◌+◌, ◌-◌, ◌^◌, ◌≤◌, min, Bool, true, false, List, ◌++◌, Option, Some}
 
 -- where the list is told now, it was told before and has gained these since, the newest first
 pub record Gains {X : Type 0} (before now : Option (List X)) (gained : List X) : Type 0 where
@@ -13,3 +13,9 @@ Rose before now = min (before + 1) (2 ^ 64 - 1) ≤ now
 pub record CountsFaults (before now : ℕ) (failed : Type 0) : Type 0 where
   pub later : before ≤ now
   pub rises : failed → Rose before now
+
+-- a count of faults rises where a call failed so, and stays where it did not
+pub record CountsJust (before now : ℕ) (failed : Bool) : Type 0 where
+  pub later : before ≤ now
+  pub rises : failed ≡ true → Rose before now
+  pub stays : failed ≡ false → now ≡ before
