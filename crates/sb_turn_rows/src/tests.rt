@@ -40,19 +40,24 @@ fn twenty_four_threads_of_a_thousand_turns_end(rt: HostRuntime) -> Result<(), Fa
 }
 
 #[test]
-fn a_waiter_is_woken_by_a_ring(rt: HostRuntime) -> Result<(), Fail> {
+fn a_waiter_is_woken_by_a_ring_and_not_before(rt: HostRuntime) -> Result<(), Fail> {
     let bell = Bell::new(rt.alloc())?;
     let mark = bell.mark(&rt);
     let start = Instant::now(&rt)?;
-    thread::join(
+    let (waited, _) = thread::join(
         &rt,
-        || bell.wait(&rt, mark, 30_000),
         || {
-            thread::sleep(&rt, Duration::from_millis(50));
+            bell.wait(&rt, mark, 30_000);
+            start.elapsed(&rt)
+        },
+        || {
+            thread::sleep(&rt, Duration::from_millis(200));
             bell.ring(&rt);
         },
     );
-    assert!(rt; start.elapsed(&rt)? < Duration::from_secs(15));
+    let waited = waited?;
+    assert!(rt; waited >= Duration::from_millis(200));
+    assert!(rt; waited < Duration::from_secs(15));
     Ok(())
 }
 
@@ -68,10 +73,23 @@ fn a_ring_between_mark_and_wait_is_not_lost(rt: HostRuntime) -> Result<(), Fail>
 }
 
 #[test]
-fn a_wait_without_a_ring_ends_by_itself(rt: HostRuntime) -> Result<(), Fail> {
+fn a_wait_without_a_ring_lasts_its_time(rt: HostRuntime) -> Result<(), Fail> {
     let bell = Bell::new(rt.alloc())?;
     let mark = bell.mark(&rt);
-    bell.wait(&rt, mark, 20);
+    let start = Instant::now(&rt)?;
+    bell.wait(&rt, mark, 100);
+    assert!(rt; start.elapsed(&rt)? >= Duration::from_millis(100));
     assert_eq!(rt; bell.mark(&rt), mark);
+    Ok(())
+}
+
+#[test]
+fn a_ring_before_the_mark_wakes_nobody(rt: HostRuntime) -> Result<(), Fail> {
+    let bell = Bell::new(rt.alloc())?;
+    bell.ring(&rt);
+    let mark = bell.mark(&rt);
+    let start = Instant::now(&rt)?;
+    bell.wait(&rt, mark, 100);
+    assert!(rt; start.elapsed(&rt)? >= Duration::from_millis(100));
     Ok(())
 }
