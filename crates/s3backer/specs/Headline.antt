@@ -45,6 +45,7 @@ use Rattle.sb_session.specs.Sessions.{Course}
 use Rattle.s3backer.specs.Plans.{PlanParts, naming_of, plan_base, default_settings}
 use Rattle.s3backer.specs.Views.{Telling, Gear, gear_in, View, view_of, WorldView}
 use Rattle.s3backer.specs.Words.{IsTaken, IsRefused, NeedsMemory}
+use Rattle.s3backer.specs.Wordings.{SaysUsage}
 use Rattle.s3backer.specs.declared.words.Usage.{Usage}
 
 -- the line that tells a fault of the store
@@ -236,15 +237,6 @@ pub record ServesBench {L C R S : Type 0} (tells : Telling L C R S) (plan : Plan
   pub links' : after.links ≡ others ++ link' ∷ []
   pub serves : Serves tells plan (gear_in link before) (gear_in link' after) told told' status
 
--- a line that begins so was said
-pub record SaysUsage (said said' : Option (List (List ℕ))) : Type 0 where
-  pub wording : List ℕ
-  pub line : Gains said said' ((codes "s3backer: usage: " ++ wording) ∷ [])
-
--- a line that says that words are not taken
-abbrev pub IsUsageLine : List ℕ → Type 0
-IsUsageLine line = (wording : List ℕ) × (line ≡ codes "s3backer: usage: " ++ wording)
-
 -- the world was asked for a bench over the plan's store, with one link
 abbrev pub AsksBench : PlanParts → Option (List Ask) → Option (List Ask) → Type 0
 AsksBench plan asks asks' = Gains asks asks' (ask.Bench (Some plan.store) 1 ∷ [])
@@ -264,7 +256,7 @@ pub record RefusesWords {L C R S : Type 0} (words : List (List ℕ)) (before aft
   pub unserved : EndsUnserved before after told told' status 2
   pub asks_stay : after.asks ≡ before.asks
   pub faults_stay : after.faults ≡ before.faults
-  pub says : SaysUsage before.said after.said
+  pub says : SaysUsage usage before.said after.said
 
 -- the words were taken, and the world had no bench: its count of faults rose
 pub record HasNoBench {L C R S : Type 0} (words : List (List ℕ)) (before after : WorldView L C R S)

@@ -11,6 +11,7 @@ mod settings;
 #[cfg(test)]
 mod tests;
 mod top;
+mod wording;
 mod words;
 #[cfg(test)]
 mod write_tests;

@@ -10,6 +10,7 @@ ghost use Rattle.sb_names.specs.declared.names.TheConstants.{MAX_PREFIX};
 ghost use Rattle.s3backer.specs.Fresh.{IsFresh};
 ghost use Rattle.s3backer.specs.Plans.{naming_of};
 ghost use Rattle.s3backer.specs.Views.{telling, gear_of, view_of, world_of};
+ghost use Rattle.s3backer.specs.Wordings.{SaysUsage};
 ghost use Rattle.s3backer.specs.Headline.{
   run_status,
   run_line,
@@ -21,12 +22,11 @@ ghost use Rattle.s3backer.specs.Headline.{
   Serves,
   ServesBench,
   RunEnds,
-  SaysUsage,
-  IsUsageLine,
 };
 
 use crate::plan::Plan;
 use crate::settings::SETTINGS;
+use crate::wording::usage_line;
 use crate::words::{PlanFault, Usage, plan};
 use arrayvec::ArrayString;
 use sb_base::Geometry;
@@ -338,7 +338,7 @@ where
 
 /// Says why words are not taken. Without memory for the wording it says that they aren't.
 fn say_usage<W: World>(alloc: Global, world: &mut W, usage: &Usage)
-    ensures says { SaysUsage (W.said world.old) (W.said world.new) }
+    ensures says { SaysUsage usage.now (W.said world.old) (W.said world.new) }
     ensures asks { W.asks world.new ≡ W.asks world.old }
     ensures last { W.last world.new ≡ W.last world.old }
     ensures faults { W.faults world.new ≡ W.faults world.old }
@@ -347,42 +347,4 @@ fn say_usage<W: World>(alloc: Global, world: &mut W, usage: &Usage)
         Ok(line) => world.say(&line),
         Err(_) => world.say(b"s3backer: usage: \n"),
     }
-}
-
-/// The line of words that are not taken.
-fn usage_line(alloc: Global, usage: &Usage) -> Result<Vec<u8>, AllocError>
-    ensures { IfOk result (λ line. IsUsageLine line.items) }
-{
-    let wording = wording(alloc, usage)?;
-    let mut line = Vec::new(alloc);
-    line.extend_from_slice(b"s3backer: usage: ")?;
-    line.extend_from_slice(&wording)?;
-    Ok(line)
-}
-
-/// What is said of words that are not taken.
-fn wording(alloc: Global, usage: &Usage) -> Result<Vec<u8>, AllocError> {
-    let mut text = Vec::new(alloc);
-    match usage {
-        Usage::NotBuilt => text.extend_from_slice(
-            b"s3backer --stdio --test [--prefix=TEXT] [--blockHashPrefix] --size=SIZE DIR",
-        )?,
-        Usage::BadSize { name, word } => {
-            text.extend_from_slice(name.bytes())?;
-            text.extend_from_slice(b": not a size: ")?;
-            text.extend_from_slice(word.bytes())?;
-        }
-        Usage::Geometry(fault) => {
-            let fault = format!(in alloc; "{fault}")?;
-            text.extend_from_slice(fault.as_bytes())?;
-        }
-        Usage::BadPrefix(prefix) => {
-            text.extend_from_slice(b"--prefix: not a prefix: ")?;
-            text.extend_from_slice(prefix.bytes())?;
-        }
-        Usage::PrefixSlash => text.extend_from_slice(b"--prefix: a slash, with --test")?,
-        Usage::BadBucket(_) => text.extend_from_slice(b"the name of the directory is empty")?,
-    }
-    text.extend_from_slice(b"\n")?;
-    Ok(text)
 }
