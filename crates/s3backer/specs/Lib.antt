@@ -3,3 +3,4 @@ pub mod Words
 pub mod Read
 pub mod Headline
 pub mod Fresh
+pub mod Outcomes
