@@ -4,7 +4,7 @@
 What one run flushed has to be there in the next, also where the first was killed. The client here is independent of the
 program; a library for NBD is used beside it where it is installed.
 """
-import hashlib, os, random, shutil, subprocess, sys, tempfile, threading, time
+import hashlib, os, random, re, shutil, signal, subprocess, sys, tempfile, threading, time
 
 program = os.path.abspath(sys.argv[1])
 OPEN = bytes.fromhex("00000003 49484156454f5054 00000001 00000000")
@@ -23,9 +23,9 @@ def expect(name, found, wanted):
 class Client:
     """A connection to a run of the program."""
 
-    def __init__(self, size, directory, *options):
-        self.process = subprocess.Popen([program, "--stdio", "--test", *options, f"--size={size}", directory],
-                                        stdin=subprocess.PIPE, stdout=subprocess.PIPE, stderr=subprocess.PIPE)
+    def __init__(self, size, directory, *options, under=(), user=None):
+        self.process = subprocess.Popen([*under, program, "--stdio", "--test", *options, f"--size={size}", directory],
+                                        stdin=subprocess.PIPE, stdout=subprocess.PIPE, stderr=subprocess.PIPE, user=user)
         self.cookie = 0
         self.send(OPEN)
         greeting = self.receive(28)
@@ -164,6 +164,127 @@ def faults(top):
     expect("its end", client.end(), (3, b"s3backer: store fault 605\n"))
 
 
+def moved(top):
+    """A directory that isn't at its path any more has no files, and isn't a disk of zeros."""
+    directory, away = os.path.join(top, "moved"), os.path.join(top, "away")
+    client = Client("64k", directory)
+    expect("a write", client.write(0, b"A" * BLOCK), 0)
+    expect("the end", client.end(), (0, b""))
+
+    client = Client("64k", directory)
+    os.rename(directory, away)
+    expect("a read where the directory was moved", client.read(0, BLOCK), (5, b""))
+    expect("a write of zeros there", client.write(0, bytes(BLOCK)), 0)
+    expect("its flush", client.flush(), 5)
+    os.mkdir(directory)
+    expect("a read where another directory stands", client.read(BLOCK, BLOCK), (5, b""))
+    expect("a flush there", client.flush(), 5)
+    os.rmdir(directory)
+    expect("its end", client.end(), (3, b"s3backer: store fault 605\n"))
+    expect("the block", files_in(away), {"00000000": b"A" * BLOCK})
+
+    os.rename(away, directory)
+    client = Client("64k", directory)
+    os.rename(directory, away)
+    expect("a read where the directory was moved", client.read(0, BLOCK), (5, b""))
+    os.rename(away, directory)
+    expect("a read where it was moved back", client.read(0, BLOCK), (0, b"A" * BLOCK))
+    shutil.rmtree(directory)
+    expect("a read of a directory that was removed", client.read(BLOCK, BLOCK), (5, b""))
+    expect("the end", client.end(), (0, b""))
+
+
+def other_types(top):
+    """A name of a block that is no file is a fault: nothing is opened, waited for, or followed out of the directory."""
+    directory, outside = os.path.join(top, "types"), os.path.join(top, "outside")
+    os.mkdir(directory)
+    with open(outside, "wb") as file:
+        file.write(b"O" * BLOCK)
+    os.mkfifo(os.path.join(directory, "00000001"))
+    os.symlink(outside, os.path.join(directory, "00000002"))
+    os.symlink("/dev/zero", os.path.join(directory, "00000003"))
+    client = Client("64k", directory)
+    for block, kind in [(1, "a pipe"), (2, "a link"), (3, "a link to a device")]:
+        expect(f"a block that is {kind}", client.read(block * BLOCK, BLOCK), (5, b""))
+    expect("the end", client.end(), (0, b""))
+
+    for block, make in [(4, os.mkfifo), (5, lambda path: os.symlink(outside, path))]:
+        make(os.path.join(directory, f"{block:08x}.tmp"))
+        client = Client("64k", directory)
+        expect("a write", client.write(block * BLOCK, b"A" * BLOCK), 0)
+        expect("its flush, where its temporary file can't be written", client.flush(), 5)
+        expect("its end", client.end(), (3, b"s3backer: store fault 605\n"))
+    expect("the file outside", open(outside, "rb").read(), b"O" * BLOCK)
+
+
+def unreadable(top):
+    """A file that can't be opened is a fault, and not a block of zeros."""
+    directory = os.path.join(top, "unreadable")
+    user = "nobody" if os.getuid() == 0 else None
+    os.mkdir(directory)
+    os.chmod(directory, 0o777)
+    os.chmod(top, 0o755)
+    client = Client("64k", directory, user=user)
+    expect("a write", client.write(0, b"A" * BLOCK), 0)
+    expect("the end", client.end(), (0, b""))
+    os.chmod(os.path.join(directory, "00000000"), 0)
+    client = Client("64k", directory, user=user)
+    expect("a block that may not be read", client.read(0, BLOCK), (5, b""))
+    expect("the end", client.end(), (0, b""))
+    expect("the file is still there", os.path.getsize(os.path.join(directory, "00000000")), BLOCK)
+
+
+def failing_streams(top):
+    """Standard input that fails isn't an end, and standard output that fails isn't taken as written."""
+    words = [program, "--stdio", "--test", "--size=64k", os.path.join(top, "streams")]
+    folder = os.open(top, os.O_RDONLY)
+    done = subprocess.run(words, stdin=folder, capture_output=True, timeout=60)
+    os.close(folder)
+    expect("an input that fails", (done.returncode, done.stderr), (7, b"s3backer: session: read fault\n"))
+    with open("/dev/full", "wb") as full:
+        done = subprocess.run(words, input=OPEN, stdout=full, stderr=subprocess.PIPE, timeout=60)
+    expect("an output that fails", (done.returncode, done.stderr), (7, b"s3backer: session: write fault\n"))
+
+
+CALL = re.compile(r"(\w+)\((.*)\) += (\d+)$")
+
+
+def calls_in(log):
+    """The system calls of a log of strace that came back without an error: name, arguments and result."""
+    lines = (re.sub(r"^\[pid +\d+\] |^\d+ +", "", line.rstrip()) for line in open(log))
+    return [found.groups() for found in map(CALL.match, lines) if found]
+
+
+def synced(top):
+    """A put syncs the file, renames it, syncs the directory, and is answered then; a delete syncs the directory."""
+    if shutil.which("strace") is None:
+        return print("skipped: strace")
+    directory, log = os.path.join(top, "synced"), os.path.join(top, "strace.log")
+    traced = "trace=open,openat,write,fsync,fdatasync,rename,renameat,renameat2,unlink,unlinkat"
+    client = Client("64k", directory, under=["strace", "-f", "-o", log, "-e", traced])
+    client.write(0, b"A" * BLOCK)
+    expect("a flush", client.flush(), 0)
+    client.write(0, bytes(BLOCK))
+    expect("a flush of zeros", client.flush(), 0)
+    expect("the end", client.end(), (0, b""))
+
+    files, steps = {}, []
+    for name, arguments, result in calls_in(log):
+        if name.startswith("open"):
+            files[result] = os.path.basename(re.search(r'"([^"]*)"', arguments)[1].rstrip("/"))
+        elif name in ("fsync", "fdatasync"):
+            steps.append("sync " + files[arguments])
+        elif name.startswith("rename"):
+            steps.append("rename")
+        elif name.startswith("unlink"):
+            steps.append("remove")
+        elif arguments.startswith("1, "):
+            steps.append("reply")
+    # from the reply to the write on: what the flush did, and the same again for zeros
+    expect("what was synced when", steps[-9:], ["reply", "sync 00000000.tmp", "rename", "sync synced", "reply",
+                                                "reply", "remove", "sync synced", "reply"])
+
+
 def spaced_puts(top):
     """Two puts of one block are at least 500 ms apart."""
     client = Client("64k", os.path.join(top, "spaced"))
@@ -234,12 +355,18 @@ for turn in range(2):
     print("skipped: libnbd")
 
 
+signal.alarm(300)
 top = tempfile.mkdtemp()
 try:
     several_runs(os.path.join(top, "plain"), "", False)
     several_runs(os.path.join(top, "prefixed"), "p+", False)
     several_runs(os.path.join(top, "hashed"), "disk.", True)
     faults(top)
+    moved(top)
+    other_types(top)
+    unreadable(top)
+    failing_streams(top)
+    synced(top)
     spaced_puts(top)
     old_versions(top)
     by_a_library(top)

@@ -5,3 +5,4 @@ pub mod Wordings
 pub mod Views
 pub mod Headline
 pub mod Fresh
+pub mod Outcomes

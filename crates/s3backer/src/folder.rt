@@ -1,15 +1,19 @@
 //! A directory of the file system.
 //!
-//! This adapter is trusted: it counts its faults, and tells nothing of files.
+//! This adapter is trusted: it counts its faults, and tells nothing of files. What it decides of an outcome stands in small
+//! functions, whose clauses are exact.
 
-ghost use Rattle.std.specs.Prelude.{◌≡◌, None, IsErrOf};
-ghost use Rattle.sb_world.specs.Told.{CountsFaults};
+ghost use Rattle.std.specs.Prelude.{◌≡◌, None};
+ghost use Rattle.sb_world.specs.Told.{CountsJust};
+ghost use Rattle.sb_world.specs.Folders.{folder_failed};
+ghost use Rattle.s3backer.specs.Outcomes.{IsFound, IsSettled, fault_of_kind, count_after};
 
 use sb_base::Text;
 use sb_world::{FileGot, Folder, FolderFault, Page};
 use std::alloc::AllocError;
-use std::fs::{self, File, Files, OpenFile};
+use std::fs::{self, File, Files, Metadata, OpenOptions};
 use std::io::{self, Read, Write};
+use std::os::unix::fs::MetadataExt;
 use std::path::Path;
 use std::rt::HostRuntime;
 use std::str;
@@ -17,14 +21,27 @@ use std::str;
 /// A file that is open.
 type HostFile = <HostRuntime as Files>::File;
 
+/// Which directory it is: its device, and its number there.
+#[derive(Drop, Clone, Copy, PartialEq, Eq, Debug)]
+struct Place {
+    device: u64,
+    inode: u64,
+}
+
 /// A directory of the file system. What was written is synced before the call answers: a file's bytes after a write,
 /// and the directory after a rename and after a remove.
+///
+/// A call fails where the path names another directory by then, or none: one that was moved, removed or unmounted has
+/// no more files, and isn't a disk of zeros. A name that stands for anything but a file is a fault; it is never opened, and
+/// a link isn't followed.
 #[derive(Drop)]
 pub struct HostFolder {
     rt: HostRuntime,
     /// The path of the directory with a slash behind it.
     root: String,
     directory: HostFile,
+    /// The directory that was opened.
+    place: Place,
     /// Whether a name has changed since the directory was synced.
     unsynced: bool,
     /// The paths of the files in work.
@@ -38,7 +55,8 @@ impl HostFolder {
     pub fn open(rt: HostRuntime, path: &str) -> io::Result<HostFolder> {
         make_directory(&rt, Path::new(path))?;
         let directory = File::open(&rt, path)?;
-        if !directory.metadata()?.is_dir() {
+        let metadata = directory.metadata()?;
+        if !metadata.is_dir() {
             return Err(io::Error::from(io::ErrorKind::NotADirectory));
         }
         let mut root = String::from_str(rt.alloc(), path)?;
@@ -47,6 +65,7 @@ impl HostFolder {
             rt,
             root,
             directory,
+            place: place_of(&metadata),
             unsynced: false,
             path: String::new(rt.alloc()),
             other: String::new(rt.alloc()),
@@ -59,28 +78,30 @@ impl HostFolder {
         ensures { self.new.faults ≡ self.old.faults }
     {
         set_path(&mut self.path, &self.root, name)?;
-        let mut file = match File::open(&self.rt, &self.path) {
-            Ok(file) => file,
-            Err(error) if error.kind() == io::ErrorKind::NotFound => return Ok(FileGot::Absent),
-            Err(error) => return Err(error),
-        };
-        let metadata = file.metadata()?;
-        if !metadata.is_file() {
-            return Err(io::Error::from(io::ErrorKind::InvalidInput));
+        if !found(fs::symlink_metadata(&self.rt, &self.path))? {
+            return Ok(FileGot::Absent);
         }
-        if metadata.len() != out.len() as u64 {
-            return Ok(FileGot::OtherLength(metadata.len()));
+        let mut file = File::open(&self.rt, &self.path)?;
+        let length = file.metadata()?.len();
+        if length != out.len() as u64 {
+            return Ok(FileGot::OtherLength(length));
         }
         file.read_exact(out)?;
         Ok(FileGot::Bytes)
     }
 
-    /// Writes a file, and syncs it.
+    /// Writes a new file in the place of the one that has the name, and syncs it.
     fn write_file(&mut self, name: &[u8], body: &[u8]) -> io::Result<()>
         ensures { self.new.faults ≡ self.old.faults }
     {
         set_path(&mut self.path, &self.root, name)?;
-        let mut file = File::create(&self.rt, &self.path)?;
+        if found(fs::symlink_metadata(&self.rt, &self.path))? {
+            fs::remove_file(&self.rt, &self.path)?;
+        }
+        let mut file = OpenOptions::new()
+            .write(true)
+            .create_new(true)
+            .open(&self.rt, &self.path)?;
         file.write_all(body)?;
         file.sync_all()
     }
@@ -141,18 +162,68 @@ impl HostFolder {
         Ok(())
     }
 
-    /// Answers a call that ended so. A failure is counted, unless it is want of memory.
-    fn answer<T: Drop>(&mut self, outcome: io::Result<T>) -> Result<T, FolderFault>
-        ensures { CountsFaults self.old.faults self.new.faults (IsErrOf result FolderFault.Failed) }
-    {
-        match outcome {
-            Ok(value) => Ok(value),
-            Err(error) if error.kind() == io::ErrorKind::OutOfMemory => Err(FolderFault::Memory),
-            Err(_) => {
-                self.faults = self.faults.saturating_add(1);
-                Err(FolderFault::Failed)
-            }
+    /// Fails where the path names another directory than the one that was opened, or none.
+    fn check_place(&self) -> io::Result<()> {
+        if place_of(&fs::metadata(&self.rt, &self.root)?) == self.place {
+            Ok(())
+        } else {
+            Err(io::Error::from(io::ErrorKind::StaleNetworkFileHandle))
         }
+    }
+
+    /// Answers a call that ended so, if the directory is still in its place. A failure is counted, unless it is want of
+    /// memory.
+    fn answer<T: Drop>(&mut self, outcome: io::Result<T>) -> Result<T, FolderFault>
+        ensures faults { self.new.faults ≡ count_after (folder_failed result) self.old.faults }
+        ensures cause { CountsJust self.old.faults self.new.faults (folder_failed result) }
+    {
+        let answer = settled(outcome, self.check_place());
+        if matches!(answer, Err(FolderFault::Failed)) {
+            self.faults = self.faults.saturating_add(1);
+        }
+        answer
+    }
+}
+
+/// The directory that metadata are of.
+fn place_of(metadata: &Metadata) -> Place {
+    Place {
+        device: metadata.dev(),
+        inode: metadata.ino(),
+    }
+}
+
+/// Whether a file stands under a name, by what was found there without opening it. Anything else under it is a fault, and
+/// so is each failure but that nothing is there.
+fn found(seen: io::Result<Metadata>) -> io::Result<bool>
+    ensures { IsFound seen result }
+{
+    match seen {
+        Ok(metadata) if metadata.is_file() => Ok(true),
+        Ok(_) => Err(io::Error::from(io::ErrorKind::InvalidInput)),
+        Err(error) if error.kind() == io::ErrorKind::NotFound => Ok(false),
+        Err(error) => Err(error),
+    }
+}
+
+/// What a call answers that ended so, where the directory was found in its place or wasn't.
+fn settled<T: Drop>(outcome: io::Result<T>, place: io::Result<()>) -> Result<T, FolderFault>
+    ensures { IsSettled outcome place result }
+{
+    match (outcome, place) {
+        (Ok(value), Ok(())) => Ok(value),
+        (Ok(_), Err(error)) => Err(fault_of(error.kind())),
+        (Err(error), _) => Err(fault_of(error.kind())),
+    }
+}
+
+/// The fault of a kind of error.
+fn fault_of(kind: io::ErrorKind) -> FolderFault
+    ensures { result ≡ fault_of_kind kind }
+{
+    match kind {
+        io::ErrorKind::OutOfMemory => FolderFault::Memory,
+        _ => FolderFault::Failed,
     }
 }
 

@@ -2,10 +2,13 @@
 //!
 //! These adapters are trusted: each counts its faults, and tells nothing of bytes or times.
 
-ghost use Rattle.std.specs.Prelude.{◌≡◌, ◌≤◌, ◌^◌, None, false, IfOk, IsErrOf, vec_len};
+ghost use Rattle.std.specs.Prelude.{◌≡◌, ◌≤◌, ◌^◌, None, Ok, Err, false, IfOk, IsErr, IsErrOf, MatchResult, length};
+ghost use Rattle.std.specs.Prelude.{vec_len};
 ghost use Rattle.std.specs.Option.{option_copied};
+ghost use Rattle.std.specs.Result.{is_err};
 ghost use Rattle.sb_world.specs.Benches.{link_count};
 ghost use Rattle.sb_world.specs.Told.{CountsFaults};
+ghost use Rattle.s3backer.specs.Outcomes.{count_after, fault_of_making, make_failed};
 
 use crate::folder::HostFolder;
 use sb_base::{StorePlan, Text};
@@ -59,17 +62,46 @@ pub struct HostWorld {
     faults: u64,
 }
 
+impl HostSource {
+    /// Answers a read that ended so: a failure is never the end.
+    fn answer(&mut self, outcome: io::Result<usize>) -> Result<usize, ReadFault>
+        ensures answer { MatchResult outcome (λ count. result ≡ Ok count) (λ _. result ≡ Err ReadFault.Failed) }
+        ensures faults { self.new.faults ≡ count_after (is_err result) self.old.faults }
+        ensures cause { CountsFaults self.old.faults self.new.faults (IsErr result) }
+    {
+        match outcome {
+            Ok(count) => Ok(count),
+            Err(_) => {
+                self.faults = self.faults.saturating_add(1);
+                Err(ReadFault::Failed)
+            }
+        }
+    }
+}
+
 impl Source for HostSource {
     ghost left = { λ _. None };
 
     ghost faults = { λ source. source.faults };
 
     fn read(&mut self, out: &mut [u8]) -> Result<usize, ReadFault> {
-        match self.input.read(out) {
-            Ok(count) => Ok(count),
+        let outcome = self.input.read(out);
+        self.answer(outcome)
+    }
+}
+
+impl HostSink {
+    /// Answers a write that ended so.
+    fn answer(&mut self, outcome: io::Result<()>) -> Result<(), WriteFault>
+        ensures answer { MatchResult outcome (λ _. result ≡ Ok tt) (λ _. result ≡ Err WriteFault.Failed) }
+        ensures faults { self.new.faults ≡ count_after (is_err result) self.old.faults }
+        ensures cause { CountsFaults self.old.faults self.new.faults (IsErr result) }
+    {
+        match outcome {
+            Ok(()) => Ok(()),
             Err(_) => {
                 self.faults = self.faults.saturating_add(1);
-                Err(ReadFault::Failed)
+                Err(WriteFault::Failed)
             }
         }
     }
@@ -81,17 +113,11 @@ impl Sink for HostSink {
     ghost faults = { λ sink. sink.faults };
 
     fn write(&mut self, bytes: &[u8]) -> Result<(), WriteFault> {
-        let written = match self.to {
+        let outcome = match self.to {
             Stream::Output(stream) => stream.write_all(bytes),
             Stream::Errors(stream) => stream.write_all(bytes),
         };
-        match written {
-            Ok(()) => Ok(()),
-            Err(_) => {
-                self.faults = self.faults.saturating_add(1);
-                Err(WriteFault::Failed)
-            }
-        }
+        self.answer(outcome)
     }
 }
 
@@ -150,17 +176,18 @@ impl HostWorld {
     /// So many links to a store.
     fn links(&mut self, store: &StorePlan, count: u32) -> Result<Vec<HostLink>, MakeFault>
         ensures count { IfOk result (λ links. vec_len links ≡ count) }
+        ensures faults { self.new.faults ≡ count_after (make_failed result) self.old.faults }
         ensures cause { CountsFaults self.old.faults self.new.faults (IsErrOf result MakeFault.Store) }
         ensures stays { (IsErrOf result MakeFault.Store → ⊥) → self.new.faults ≡ self.old.faults }
     {
-        match open_links(self.rt, store, count) {
-            Ok(links) => Ok(links),
-            Err(error) if error.kind() == io::ErrorKind::OutOfMemory => Err(MakeFault::Memory),
-            Err(_) => {
-                self.faults = self.faults.saturating_add(1);
-                Err(MakeFault::Store)
-            }
+        let fault = match open_links(self.rt, store, count) {
+            Ok(links) => return Ok(links),
+            Err(error) => make_fault(error.kind()),
+        };
+        if fault == MakeFault::Store {
+            self.faults = self.faults.saturating_add(1);
         }
+        Err(fault)
     }
 
     /// A sink.
@@ -220,11 +247,23 @@ impl World for HostWorld {
         ensures { self.new.faults ≡ self.old.faults }
     {}
 
-    fn say(&mut self, line: &[u8]) {
+    fn say(&mut self, line: &[u8])
+        ensures { self.new.faults ≡ self.old.faults }
+    {
         match self.rt.stderr().write_all(line) {
             Ok(()) => {}
             Err(_) => {}
         }
+    }
+}
+
+/// Why no bench was made, by a kind of error.
+fn make_fault(kind: io::ErrorKind) -> MakeFault
+    ensures { result ≡ fault_of_making kind }
+{
+    match kind {
+        io::ErrorKind::OutOfMemory => MakeFault::Memory,
+        _ => MakeFault::Store,
     }
 }
 
