@@ -86,3 +86,15 @@ items-preserved c =
       before.4 ∙ sym (names_more before.0 item ∙ ap (λ xs. names_of before.0 ++ xs) (no_name_in (mark_at rest))
           ∙ append-nil (names_of before.0)),
     )
+
+pub returns-in-Err : goal.returns-in-Err
+returns-in-Err c =
+    let body = c.args.body.now in
+    let at = c.items.at in
+    let before = c.items.invariant in (
+      before.0,
+      drop at body,
+      before.1,
+      key_begins body at c.begins_name.result true c.begins_name.ensures.is c.if-begins_name.true,
+      c.in-Err.ensures ∙ before.4,
+    )
