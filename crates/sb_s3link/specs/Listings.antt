@@ -26,7 +26,8 @@ pub record IsCut (text : List ℕ) (items : List Item) (at : ℕ) : Type 0 where
   pub begun : begins rest (codes "<Key>") ≡ true
   pub none : HasNoName (drop 5 rest)
 
--- the answer to the text of a listing, with the names that were read: whether more follow, by its one mark
+-- the answer to the text of a listing, with the names that were read: whether more follow, by its one mark; memory is
+-- wanted only where a name begins
 abbrev pub IsListing : List ℕ → List (List ℕ) → Result Bool ListingFault → Type 0
 IsListing text names (Ok more) =
     (items : List Item) × IsWhole text items × (marks_of items ≡ more ∷ []) × (names ≡ names_of items)
@@ -34,4 +35,6 @@ IsListing text names (Err NoTruncatedMark) =
     (items : List Item) × IsWhole text items × (length (marks_of items) ≢ 1) × (names ≡ names_of items)
 IsListing text names (Err (KeyCut at)) =
     (items : List Item) × IsCut text items at × (names ≡ names_of items)
-IsListing text names (Err Memory) = Unit {0}
+IsListing text names (Err Memory) =
+    (items : List Item) × (rest : List ℕ) × AreItems text items rest × (begins rest (codes "<Key>") ≡ true)
+    × (names ≡ names_of items)

@@ -1,5 +1,7 @@
 //! Reading listings.
 
+ghost use Rattle.std.specs.Prelude.{◌≡◌, ◌≤◌, IsTrue, codes, length};
+ghost use Rattle.sb_s3link.specs.Entities.{begins};
 ghost use Rattle.sb_s3link.specs.Listings.{IsListing};
 ghost use Rattle.sb_s3link.specs.Readings.{TakesName};
 
@@ -35,7 +37,7 @@ pub fn read_listing(alloc: Global, body: &[u8], page: &mut Page) -> Result<bool,
     let mut at = 0;
     'items: while at < body.len() {
         let rest = &body[at..];
-        if rest.starts_with(KEY) {
+        if begins_name(rest) {
             match take_name(alloc, &rest[KEY.len()..], page) {
                 Ok(Some(length)) => at += KEY.len() + length,
                 Ok(None) => return Err(ListingFault::KeyCut { at: at as u64 }),
@@ -50,6 +52,14 @@ pub fn read_listing(alloc: Global, body: &[u8], page: &mut Page) -> Result<bool,
         Marks::One(more) => Ok(more),
         _ => Err(ListingFault::NoTruncatedMark),
     }
+}
+
+/// Tells whether a text begins with `<Key>`.
+fn begins_name(text: &[u8]) -> bool
+    ensures is { result ≡ begins text.now (codes "<Key>") }
+    ensures bound { IsTrue result → 5 ≤ length text.now }
+{
+    matches!(text, [b'<', b'K', ..]) && text.starts_with(KEY)
 }
 
 /// Takes the name that stands behind `<Key>`, if one does, into the page, and answers how many bytes it takes with its

@@ -41,7 +41,9 @@ impl Marks {
 fn mark_at(text: &[u8]) -> Option<bool>
     ensures { result ≡ mark_at text.now }
 {
-    if text.starts_with(b"<IsTruncated>true</IsTruncated>") {
+    if !matches!(text, [b'<', b'I', ..]) {
+        None
+    } else if text.starts_with(b"<IsTruncated>true</IsTruncated>") {
         Some(true)
     } else if text.starts_with(b"<IsTruncated>false</IsTruncated>") {
         Some(false)

@@ -26,7 +26,7 @@ items-preserved-in-Ok-Some c =
     let at = c.items.at in
     let size = c.in-Ok-Some.length in
     let before = c.items.invariant in
-    let begun = key_begins body at c.starts_with.result true c.starts_with.ensures.value c.if-starts_with.true in
+    let begun = key_begins body at c.begins_name.result true c.begins_name.ensures.is c.if-begins_name.true in
     let told = rw c.in-Ok-Some.field-0-is at c.in-Ok-Some.ensures in
     let is : IsName (drop 5 (drop at body)) told.0 (drop size (drop 5 (drop at body))) =
     subst (λ xs. IsName xs told.0 (drop size xs)) (behind_tag body at) told.1 in
@@ -42,7 +42,7 @@ items-preserved-in-Ok-Some c =
         ap (λ (xs : List ℕ). length xs) (behind_tag body at),
         length-drop at body,
         length-drop 5 (drop at body),
-        c.if-starts_with.ensures.bound refl,
+        c.if-begins_name.ensures.bound refl,
         ap (λ (xs : List ℕ). length xs) (rest_of body at),
         before.2,
       ),
@@ -61,7 +61,7 @@ returns-in-Ok-None c =
         rest = drop at body;
         read = before.1;
         place = omega (arith, length-drop at body, before.2);
-        begun = key_begins body at c.starts_with.result true c.starts_with.ensures.value c.if-starts_with.true;
+        begun = key_begins body at c.begins_name.result true c.begins_name.ensures.is c.if-begins_name.true;
         none = subst (λ xs. HasNoName xs) (behind_tag body at) told.0;
       },
       told.1 ∙ before.4,
@@ -74,7 +74,7 @@ items-preserved c =
     let before = c.items.invariant in
     let rest = drop at body in
     let item = item_of (mark_at rest) in
-    let begun = key_begins body at c.starts_with.result false c.starts_with.ensures.value c.if-starts_with.false in
+    let begun = key_begins body at c.begins_name.result false c.begins_name.ensures.is c.if-begins_name.false in
     let stands = stands_else rest begun (omega (arith, length-drop at body, c.items-test.true)) in (
       before.0 ++ item ∷ [],
       subst (λ xs. AreItems body (before.0 ++ item ∷ []) xs) (further body at 1)
@@ -85,4 +85,16 @@ items-preserved c =
           (c.behind-marks.ensures (marks_of before.0) before.3)),
       before.4 ∙ sym (names_more before.0 item ∙ ap (λ xs. names_of before.0 ++ xs) (no_name_in (mark_at rest))
           ∙ append-nil (names_of before.0)),
+    )
+
+pub returns-in-Err : goal.returns-in-Err
+returns-in-Err c =
+    let body = c.args.body.now in
+    let at = c.items.at in
+    let before = c.items.invariant in (
+      before.0,
+      drop at body,
+      before.1,
+      key_begins body at c.begins_name.result true c.begins_name.ensures.is c.if-begins_name.true,
+      c.in-Err.ensures ∙ before.4,
     )
