@@ -34,7 +34,7 @@ fn main(rt: HostRuntime) -> anyhow::Result<()> {
         "read" => reads(&mut blocks, entries, rounds, &mut body),
         "write" => writes(&mut blocks, entries, rounds, &mut body),
         "victim" => victims(&blocks, rounds),
-        "replace" => replaces(&mut blocks, geometry.blocks, rounds, &mut body),
+        "replace" => replaces(&mut blocks, entries, geometry.blocks, rounds, &mut body),
         _ => bail!("read, write, victim or replace is wanted"),
     };
     println!(rt; "{sum}")?;

@@ -127,8 +127,9 @@ pub fn victims(blocks: &Blocks, rounds: u32) -> u64 {
     sum
 }
 
-/// Drops the victim and holds another block in its place, as a disk does that reads what isn't cached.
-pub fn replaces(blocks: &mut Blocks, disk: u32, rounds: u32, body: &mut [u8]) -> u64
+/// Drops the victim and holds another block in its place, as a disk does that reads one block behind the other. The first
+/// `entries` of its blocks are cached.
+pub fn replaces(blocks: &mut Blocks, entries: u32, disk: u32, rounds: u32, body: &mut [u8]) -> u64
     requires size { blocks.old.geometry.block_size ≡ 4096 }
     requires disk { disk ≤ blocks.old.geometry.blocks }
     requires some { 0 < disk }
@@ -136,16 +137,18 @@ pub fn replaces(blocks: &mut Blocks, disk: u32, rounds: u32, body: &mut [u8]) ->
 {
     let mut sum = 0u64;
     for round in 0..rounds {
+        let place = entries as u64 + round as u64;
         if let Some(block) = blocks.victim() {
             sum = sum.wrapping_add(block as u64 + 1);
-            replace(blocks, block, spread(round, disk), round, body);
+            let next = (place % disk as u64) as u32;
+            replace(blocks, block, next, place, body);
         }
     }
     sum
 }
 
 /// Drops a clean block, and reads another one that has no entry.
-fn replace(blocks: &mut Blocks, old: u32, new: u32, round: u32, body: &[u8])
+fn replace(blocks: &mut Blocks, old: u32, new: u32, place: u64, body: &[u8])
     requires size { blocks.old.geometry.block_size ≡ 4096 }
     requires on_disk { new < blocks.old.geometry.blocks }
     requires body { length body.now ≡ 4096 }
@@ -157,11 +160,11 @@ fn replace(blocks: &mut Blocks, old: u32, new: u32, round: u32, body: &[u8])
     if blocks.look(old) == Look::Clean {
         blocks.drop_block(old);
     }
-    take(blocks, new, round, body);
+    take(blocks, new, place, body);
 }
 
 /// Begins a GET of a block that has no entry, and takes its answer.
-fn take(blocks: &mut Blocks, block: u32, round: u32, body: &[u8])
+fn take(blocks: &mut Blocks, block: u32, place: u64, body: &[u8])
     requires size { blocks.old.geometry.block_size ≡ 4096 }
     requires on_disk { block < blocks.old.geometry.blocks }
     requires body { length body.now ≡ 4096 }
@@ -169,14 +172,14 @@ fn take(blocks: &mut Blocks, block: u32, round: u32, body: &[u8])
 {
     let get = OpenGet {
         pass: 1,
-        begun: round as u64,
+        begun: place,
         expect: None,
         verify: None,
     };
     if blocks.look(block) == Look::Missing && blocks.free() > 0 {
         blocks.begin_read(block, get);
         if blocks.look(block) == Look::Reading {
-            blocks.end_read(round as u64, round as u64, block, Answer::Bytes(body), true);
+            blocks.end_read(place, place, block, Answer::Bytes(body), true);
         }
     }
 }
