@@ -234,6 +234,15 @@ def unreadable(top):
     expect("the file is still there", os.path.getsize(os.path.join(directory, "00000000")), BLOCK)
 
 
+def refused_words(top):
+    """Words that are refused have status 2, and no directory is made."""
+    directory = os.path.join(top, "refused")
+    expect("no words", run([])[0], 2)
+    expect("an option that isn't built", run(["--stdio", "--test", "--readOnly", "--size=64k", directory])[0], 2)
+    expect("a word that is not UTF-8", run([b"\xff"]), (2, b"", b"s3backer: usage: a word is not UTF-8\n"))
+    expect("no directory", os.path.exists(directory), False)
+
+
 def failing_streams(top):
     """Standard input that fails isn't an end, and standard output that fails isn't taken as written."""
     words = [program, "--stdio", "--test", "--size=64k", os.path.join(top, "streams")]
@@ -365,6 +374,7 @@ try:
     moved(top)
     other_types(top)
     unreadable(top)
+    refused_words(top)
     failing_streams(top)
     synced(top)
     spaced_puts(top)

@@ -10,8 +10,8 @@ use crate::steps::filler;
 use sb_base::{Geometry, Part, Settings, Text};
 use sb_core::Core;
 use sb_crew::{Alone, CallFault, Calls, Desk, Names};
-use sb_fakes::{HandClock, Object, TimedStore};
-use sb_world::{Meta, Tape};
+use sb_fakes::Object;
+use sb_world::{Clock, Link, Meta, Tape};
 use std::alloc::{AllocError, Global};
 
 /// How many bytes a block has.
@@ -60,11 +60,11 @@ pub fn first_block(alloc: Global, body: &[u8]) -> Result<Vec<Object>, AllocError
 }
 
 /// A desk over a store.
-pub fn desk_over(
+pub fn desk_over<L: Link + Drop, C: Clock + Drop>(
     alloc: Global,
-    store: TimedStore,
-    clock: HandClock,
-) -> Result<Desk<TimedStore, HandClock>, AllocError>
+    store: L,
+    clock: C,
+) -> Result<Desk<L, C>, AllocError>
     ensures { IfOk result (λ desk. vec_len desk.room ≡ 512) }
 {
     match Desk::new(alloc, store, clock, &GEOMETRY) {
@@ -85,9 +85,9 @@ fn whole(block: u32) -> Part
 }
 
 /// Writes one byte all over a block.
-pub fn writes<T: Tape>(
+pub fn writes<T: Tape, L: Link, C: Clock>(
     disk: &mut Alone<T>,
-    desk: &mut Desk<TimedStore, HandClock>,
+    desk: &mut Desk<L, C>,
     block: u32,
     byte: u8,
 ) -> Result<(), CallFault>
@@ -101,9 +101,9 @@ pub fn writes<T: Tape>(
 }
 
 /// Reads a block: the byte that fills it, none where no one byte does.
-pub fn reads<T: Tape>(
+pub fn reads<T: Tape, L: Link, C: Clock>(
     disk: &mut Alone<T>,
-    desk: &mut Desk<TimedStore, HandClock>,
+    desk: &mut Desk<L, C>,
     block: u32,
 ) -> Result<Option<u8>, CallFault>
     requires ready { IsReadyWith disk.old desk.old }
@@ -120,9 +120,9 @@ pub fn reads<T: Tape>(
 }
 
 /// Flushes.
-pub fn flushes<T: Tape>(
+pub fn flushes<T: Tape, L: Link, C: Clock>(
     disk: &mut Alone<T>,
-    desk: &mut Desk<TimedStore, HandClock>,
+    desk: &mut Desk<L, C>,
 ) -> Result<(), CallFault>
     requires ready { IsReadyWith disk.old desk.old }
     requires shape { geometry_of (core_of disk.old) ≡ GEOMETRY }

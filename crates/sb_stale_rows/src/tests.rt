@@ -15,11 +15,12 @@ use crate::{
 };
 use sb_base::{Settings, Why};
 use sb_crew::{Alone, CallFault, Desk};
-use sb_fakes::{HandClock, RecordTape, Show, TimedStore};
+use sb_fakes::{HandClock, RecordTape, SharedClock, Show, SlowLink, TimedStore};
 use sb_staleness::{Delays, is_stale_within};
 use sb_world::Tick;
 use sb_world::Tick::{Paused, Taken};
 use std::alloc::{AllocError, Global};
+use std::cell::Cell;
 use std::test::Fail;
 
 /// Puts are spaced by 500 ms, MD5s are kept for 10 s, and a GET is stale for good 5 s after the put.
@@ -143,6 +144,43 @@ fn ticks_of(desk: &Desk<TimedStore, HandClock>) -> &[Tick] {
         Some(ticks) => ticks,
         None => &[],
     }
+}
+
+// Each call of the link takes 7 ms. The reading at a call's begin is taken before it is sent, and that at its end behind
+// its answer and before anything else is sent.
+#[test]
+fn a_reading_is_taken_behind_the_answer(rt: HostRuntime) -> Result<(), Fail> {
+    let hand = Cell::new(1000);
+    let start = first_block(rt.alloc(), &[A; 512])?;
+    let link = SlowLink {
+        link: TimedStore::new(
+            rt.alloc(),
+            start,
+            Vec::new(rt.alloc()),
+            Vec::new(rt.alloc()),
+        ),
+        hand: &hand,
+        millis: 7,
+    };
+    let mut desk = desk_over(rt.alloc(), link, SharedClock::new(rt.alloc(), &hand, 0))?;
+    let mut disk = disk(rt.alloc(), SETTINGS)?;
+    assert_eq!(rt; writes(&mut disk, &mut desk, 0, B), Ok(()));
+    assert_eq!(rt; flushes(&mut disk, &mut desk), Ok(()));
+    assert_eq!(rt; reads(&mut disk, &mut desk, 1), Ok(Some(0)));
+    let want = [
+        (1000, Write(0, B)),
+        (1000, FlushBegin(0)),
+        (1000, PutBegin(0, B)),
+        (1007, PutEnd(0, true)),
+        (1007, FlushDone(0)),
+        (1007, Dropped(0)),
+        (1007, GetBegin(1, None)),
+        (1014, GetEnd(1, None, true)),
+        (1014, Read(1, 0)),
+    ];
+    let (_core, tape) = disk.finish();
+    assert_eq!(rt; lines(rt.alloc(), &tape)?.as_slice(), want.as_slice());
+    Ok(())
 }
 
 // The store shows the start of block 0 to two GETs after its put.
