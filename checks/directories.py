@@ -23,8 +23,8 @@ def expect(name, found, wanted):
 class Client:
     """A connection to a run of the program."""
 
-    def __init__(self, size, directory, *options, under=(), user=None):
-        self.process = subprocess.Popen([*under, program, "--stdio", "--test", *options, f"--size={size}", directory],
+    def __init__(self, size, directory, *options, under=(), runs=program, user=None):
+        self.process = subprocess.Popen([*under, runs, "--stdio", "--test", *options, f"--size={size}", directory],
                                         stdin=subprocess.PIPE, stdout=subprocess.PIPE, stderr=subprocess.PIPE, user=user)
         self.cookie = 0
         self.send(OPEN)
@@ -224,11 +224,21 @@ def unreadable(top):
     os.mkdir(directory)
     os.chmod(directory, 0o777)
     os.chmod(top, 0o755)
-    client = Client("64k", directory, user=user)
+    # the other user may not reach the program where it was built
+    copy = os.path.join(top, "s3backer")
+    shutil.copy(program, copy)
+    os.chmod(copy, 0o755)
+    try:
+        reached = subprocess.run([copy], stdin=subprocess.DEVNULL, capture_output=True, user=user).returncode == 2
+    except (OSError, ValueError, KeyError):
+        reached = False
+    if not reached:
+        return print("skipped: another user")
+    client = Client("64k", directory, runs=copy, user=user)
     expect("a write", client.write(0, b"A" * BLOCK), 0)
     expect("the end", client.end(), (0, b""))
     os.chmod(os.path.join(directory, "00000000"), 0)
-    client = Client("64k", directory, user=user)
+    client = Client("64k", directory, runs=copy, user=user)
     expect("a block that may not be read", client.read(0, BLOCK), (5, b""))
     expect("the end", client.end(), (0, b""))
     expect("the file is still there", os.path.getsize(os.path.join(directory, "00000000")), BLOCK)
