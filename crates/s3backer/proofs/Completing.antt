@@ -1,6 +1,7 @@
 -- Over a kind store, with a kind clock and without faults, nothing fails but for want of memory.
 use Rattle.std.proofs.Common.{ℕ, ◌≡◌, ◌≢◌, ◌≤◌, ◌⊎◌, inl, inr, Bool, if◌then◌else◌, List, [], ◌∷◌, ◌++◌, length}
-use Rattle.std.proofs.Common.{Option, Some, None, Result, Ok, Err, refl, sym, ◌∙◌, ap, subst, arith}
+use Rattle.std.proofs.Common.{Option, Some, None, Result, Ok, Err, refl, sym, ◌∙◌, ap, subst, arith, ◌+◌}
+use Rattle.std.proofs.lemmas.Bool.{leb-true}
 use Rattle.std.specs.List.{AllByRecursion}
 use Rattle.std.proofs.lemmas.Bool.{eq-eqb}
 use Rattle.std.proofs.lemmas.List.Elements.{Contains-append_right}
@@ -105,7 +106,7 @@ module _ (geometry : Geometry) (settings : Settings) (found : Found) (start : St
       let digest = subst (λ (v : Option (List ℕ)). answer_digest size v answer ≡ Some shown) ends.0 untaken.2 in
       let soon = law geometry settings found start delays (newest ∷ past) before of fetch expect answer shown is refl seen
       digest (subst (λ (d : List ℕ). shown ≢ d) (sym late.1.0) other) in
-      omega (arith, soon, young, late.1.1)
+      omega (arith, soon, young, leb-true (expect.since + settings.stale_limit) begun late.1.1)
   never_late law young pass reading number begun (kind.GetEnd of answer verify taken) (kind.GetBegin asked None verify')
       past block expected shown sound untaken late other = late.1
   never_late law young pass reading number begun (kind.GetEnd of answer verify taken) began past block expected shown

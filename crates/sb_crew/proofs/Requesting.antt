@@ -3,7 +3,6 @@ use Rattle.std.proofs.Common.{ℕ, ◌≡◌, ◌≢◌, ◌+◌, Bool, true, fa
 use Rattle.std.proofs.Common.{Option, Some, None, Result, Ok, Err, refl, sym, ◌∙◌, ap, subst, arith}
 use Rattle.std.specs.Str.{bytes_eq}
 use Rattle.std.proofs.lemmas.Slice.Eq.{bytes_eq-Decides}
-use Rattle.std.proofs.lemmas.Bool.{leb-true, leb-false}
 use Rattle.std.proofs.lemmas.Grind.{common_steps}
 use Rattle.sb_base.specs.declared.line.Expect.{Expect}
 use Rattle.sb_base.specs.declared.entry.Shown.TheVariants as shown
@@ -24,7 +23,7 @@ use Rattle.sb_history.specs.Contents.{is_zeros}
 use Rattle.sb_history.specs.Gets.{Fetch}
 use Rattle.sb_history.specs.Requests.{meta_of}
 use Rattle.sb_history.specs.Window.{answer_digest}
-use Rattle.sb_history.specs.ClockTrace.{DiffersInTime, IsAskedAnew, PausesWhere, PauseTicks}
+use Rattle.sb_history.specs.ClockTrace.{is_late, stale_pause, DiffersInTime, IsAskedAnew, PausesWhere, PauseTicks}
 use Rattle.sb_core.specs.declared.machine.Core.{Core}
 use Rattle.sb_core.specs.declared.job.GetJob.{GetJob}
 use Rattle.sb_core.specs.declared.step.GetDone.{GetDone}
@@ -37,7 +36,7 @@ use Rattle.sb_crew.specs.declared.calls.CallFault.{CallFault}
 use Rattle.sb_crew.specs.declared.calls.FlushFault.{FlushFault}
 use Rattle.sb_crew.specs.declared.calls.CallFault.TheVariants.{StaleRead}
 use Rattle.sb_crew.specs.Names.{Naming, name_of}
-use Rattle.sb_crew.specs.Answers.{shown_for, fault_for, call_fault, as_call, is_late}
+use Rattle.sb_crew.specs.Answers.{shown_for, fault_for, call_fault, as_call}
 use Rattle.sb_crew.specs.Outcomes as outcome
 use Rattle.sb_crew.specs.Bases.{Base, base_of}
 use Rattle.sb_crew.specs.Outcomes.{IsLongExpected, HasCause, PausesReach, ReachesBut}
@@ -59,12 +58,12 @@ expect_of (Some get) = get.expect
 pauses_so : (limit : ℕ) (job : GetJob) (fetch : Option Fetch) (digest : Option (List ℕ)) (pause : Option ℕ)
     → open_get fetch
     ≡ Some (record { pass = 1; begun = job.begun; expect = job.expect; verify = job.verify })
-    → PausesWhere (DiffersInTime limit job.begun job.expect digest) 100 pause
-    → PausesWhere (IsAskedAnew limit fetch digest) 100 pause
+    → PausesWhere (DiffersInTime limit job.begun job.expect digest) stale_pause pause
+    → PausesWhere (IsAskedAnew limit fetch digest) stale_pause pause
 pauses_so limit job None digest pause is pauses = absurd (cc)
 pauses_so limit job (Some fetch) digest pause is pauses =
-    let P : ℕ → Type 0 = λ n. PausesWhere (DiffersInTime limit n fetch.expect digest) 100 pause in
-    let Q : Option Expect → Type 0 = λ e. PausesWhere (DiffersInTime limit job.begun e digest) 100 pause in
+    let P : ℕ → Type 0 = λ n. PausesWhere (DiffersInTime limit n fetch.expect digest) stale_pause pause in
+    let Q : Option Expect → Type 0 = λ e. PausesWhere (DiffersInTime limit job.begun e digest) stale_pause pause in
     subst P (sym (ap begun_of is)) (subst Q (sym (ap expect_of is)) pauses)
 
 -- an answer that was taken doesn't differ
@@ -124,8 +123,7 @@ pub late_is_over : (limit begun : ℕ) (expect : Option Expect) (digest : Option
     → is_late limit begun expect ≡ true → DiffersInTime limit begun expect digest → ⊥
 late_is_over limit begun None digest late differs = differs
 late_is_over limit begun (Some expect) None late differs = differs
-late_is_over limit begun (Some expect) (Some digest) late differs =
-    omega (arith, leb-true (expect.since + limit) begun late, differs.1)
+late_is_over limit begun (Some expect) (Some digest) late differs = absurd (cc)
 
 pub differs_in_time : (limit begun : ℕ) (expect : Option Expect) (digest : Option (List ℕ)) (expected shown : List ℕ)
     → is_late limit begun expect ≡ false → ShowsOther expect digest expected shown
@@ -136,14 +134,14 @@ differs_in_time limit begun (Some expect) (Some digest) expected shown late stal
     let same : digest ≡ shown = cc in (
       subst (λ (e : List ℕ). digest ≢ e) (sym stale.expected_is)
           (subst (λ (d : List ℕ). d ≢ expected) (sym same) stale.other),
-      omega (arith, leb-false (expect.since + limit) begun late),
+      late,
     )
 
 -- a late GET has to show a digest whose put ended long before
 long_expected : (limit begun : ℕ) (expect : Option Expect) (expected : List ℕ) → IsExpected expected expect
     → is_late limit begun expect ≡ true → IsLongExpected limit begun expected expect
 long_expected limit begun None expected is late = is
-long_expected limit begun (Some expect) expected is late = (is, leb-true (expect.since + limit) begun late)
+long_expected limit begun (Some expect) expected is late = (is, late)
 
 -- a failure isn't judged as taken
 failed_is_not_taken : (expect : Option Expect) → judged expect None ≡ done.Taken → ⊥
@@ -220,7 +218,7 @@ module _ {names names' : Naming} {core core' : Core} {tape tape' : Option (List 
       → CountsFaults faults faults' (HasFailed answered) → Gains clock between (tick.Taken later ∷ [])
       → Event (disk_at names core tape) (disk_at names' core' tape') later (get_end_entry 1 reading job (shown_for answered bytes) outcome)
       → PausesWhere (DiffersInTime (settings_of core).stale_limit job.begun job.expect
-      (answer_digest (geometry_of core).block_size job.verify (shown_for answered bytes))) 100 pause
+      (answer_digest (geometry_of core).block_size job.verify (shown_for answered bytes))) stale_pause pause
       → PauseTicks true later (next_of result) pause after
       → Gains between clock' (next_ticks (next_of result) ++ after)
       → RequestEnds (base_of core)
@@ -368,7 +366,7 @@ module _ {names names' : Naming} {core core' : Core} {tape tape' : Option (List 
       → outcome ≡ judged job.expect (answer_digest (geometry_of core).block_size job.verify (shown_for answered bytes))
       → outcome ≡ done.Stale expected shown
       → is_late (settings_of core).stale_limit job.begun job.expect ≡ false
-      → Pauses between clock' latest latest' later 100 result
+      → Pauses between clock' latest latest' later stale_pause result
       → FetchDoes (scene_at names core tape log faults clock) (scene_at names' core' tape' log' faults' clock') job (as_call result)
   fetch_paused job answered bytes later reading outcome expected shown result opened called counted took event answer
       is late
@@ -378,7 +376,7 @@ module _ {names names' : Naming} {core core' : Core} {tape tape' : Option (List 
       (sym answer ∙ is) in
       let paused = pause_is pauses in
       fetch_does job answered bytes later reading outcome (as_call result)
-      (Some 100) paused.after opened called counted took event
+      (Some stale_pause) paused.after opened called counted took event
       (differs_in_time (settings_of core).stale_limit job.begun job.expect _ expected shown late other, refl)
       paused.paused paused.readings
       (paused.cause (base_of core) (get_ended job reading answered bytes (is_taken outcome)) (get_begun job ∷ [])

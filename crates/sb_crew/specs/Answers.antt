@@ -1,6 +1,5 @@
 -- What the answers of a link are to the core and to the caller.
-use Rattle.std.specs.Prelude.{ℕ, ◌+◌, Bool, true, nat_le, List, Option, Some, None, Result, Ok, Err}
-use Rattle.sb_base.specs.declared.line.Expect.{Expect}
+use Rattle.std.specs.Prelude.{ℕ, List, Result, Ok, Err}
 use Rattle.sb_base.specs.declared.entry.Shown.{Shown}
 use Rattle.sb_base.specs.declared.entry.Shown.TheVariants as shown
 use Rattle.sb_world.specs.declared.link.Got.{Got}
@@ -33,8 +32,3 @@ call_fault (flush.ClockStalled before asked after) = ClockStalled before asked a
 abbrev pub as_call : {T : Type 0} → Result T FlushFault → Result T CallFault
 as_call (Ok value) = Ok value
 as_call (Err fault) = Err (call_fault fault)
-
--- a GET that began at a reading and has to show a digest began at least the limit after the end of the put that left it
-abbrev pub is_late : ℕ → ℕ → Option Expect → Bool
-is_late limit begun None = true
-is_late limit begun (Some expect) = nat_le (expect.since + limit) begun

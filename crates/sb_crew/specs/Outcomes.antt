@@ -1,6 +1,6 @@
 -- What the entries of a call of the disk came to. Entries, calls of the link and ticks are newest first.
 use Rattle.std.specs.Prelude.{ℕ, ◌≡◌, ◌≢◌, ◌+◌, ◌<◌, ◌≤◌, ◌⊎◌, length, List, [], ◌∷◌, ◌++◌, Option, Some, None}
-use Rattle.std.specs.Prelude.{Result, Ok, Err, false}
+use Rattle.std.specs.Prelude.{Result, Ok, Err, true, false}
 use Rattle.std.specs.List.{AllByRecursion}
 use Rattle.sb_base.specs.declared.part.Part.{Part}
 use Rattle.sb_base.specs.declared.entry.Entry.{Entry}
@@ -15,7 +15,7 @@ use Rattle.sb_world.specs.declared.link.Call.TheVariants as call
 use Rattle.sb_world.specs.declared.link.GetReply.TheVariants as get
 use Rattle.sb_world.specs.declared.link.LinkFault.{LinkFault}
 use Rattle.sb_world.specs.declared.link.LinkFault.TheVariants as link
-use Rattle.sb_history.specs.ClockTrace.{wait_pause}
+use Rattle.sb_history.specs.ClockTrace.{wait_pause, stale_pause, is_late}
 use Rattle.sb_history.specs.Window.{answer_digest}
 use Rattle.sb_crew.specs.Scenes.{Deed}
 use Rattle.sb_crew.specs.Bases.{Base}
@@ -102,10 +102,11 @@ IsUntaken block_size block digest (kind.GetEnd of answer verify taken) =
     (of ≡ block) × (taken ≡ false) × (answer_digest block_size verify answer ≡ Some digest)
 IsUntaken block_size block digest other = ⊥
 
--- a GET that begins at this reading has to show this digest, whose put ended by the limit before it at least
+-- a GET that begins at this reading is late, and has to show this digest
 abbrev pub IsLongExpected : ℕ → ℕ → List ℕ → Option Expect → Type 0
 IsLongExpected limit begun digest None = ⊥
-IsLongExpected limit begun digest (Some expect) = (expect.digest ≡ digest) × (expect.since + limit ≤ begun)
+IsLongExpected limit begun digest (Some expect) =
+    (expect.digest ≡ digest) × (is_late limit begun (Some expect) ≡ true)
 
 -- the begin of such a GET of this block
 abbrev pub AsksLate : ℕ → ℕ → List ℕ → ℕ → EntryKind → Type 0
@@ -126,7 +127,7 @@ IsStale base block expected shown begun entries = ⊥
 -- of a GET that wasn't taken
 abbrev pub PausesFor : ℕ → ℕ → EntryKind → Type 0
 PausesFor taken millis (kind.Waited reason) = wait_pause reason taken ≡ Some millis
-PausesFor taken millis (kind.GetEnd block answer verify took) = (took ≡ false) × (millis ≡ 100)
+PausesFor taken millis (kind.GetEnd block answer verify took) = (took ≡ false) × (millis ≡ stale_pause)
 PausesFor taken millis other = ⊥
 
 -- the newest tick is a reading less than so long after the one that was taken before the pause

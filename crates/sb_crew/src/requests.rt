@@ -3,7 +3,8 @@
 ghost use Rattle.std.specs.Prelude.{◌≡◌, ◌≤◌, ◌^◌, ◌∷◌, [], length, vec_len, IfOk, IsOk};
 ghost use Rattle.sb_base.specs.Lines.{shown_of};
 ghost use Rattle.sb_core.specs.Steps.{is_taken};
-ghost use Rattle.sb_crew.specs.Answers.{shown_for, fault_for, is_late};
+ghost use Rattle.sb_history.specs.ClockTrace.{is_late};
+ghost use Rattle.sb_crew.specs.Answers.{shown_for, fault_for};
 
 use crate::alone::{Alone, PASS};
 use crate::calls::{CallFault, FlushFault};

@@ -1,6 +1,6 @@
 -- What a clock gave for the entries of one pass: a reading for each, and a pause after those that are to be tried
 -- again. Entries and ticks are lists with the newest first.
-use Rattle.std.specs.Prelude.{ℕ, ◌≡◌, ◌≢◌, ◌+◌, ◌-◌, ◌<◌, ◌≤◌, ◌⊎◌, Bool, true, false, nat_eq, List, [], ◌∷◌, ◌++◌}
+use Rattle.std.specs.Prelude.{ℕ, ◌≡◌, ◌≢◌, ◌+◌, ◌-◌, ◌<◌, ◌≤◌, ◌⊎◌, Bool, true, false, nat_eq, nat_le, List, [], ◌∷◌, ◌++◌}
 use Rattle.std.specs.Prelude.{Option, Some, None, max}
 use Rattle.sb_base.specs.declared.geometry.Geometry.{Geometry}
 use Rattle.sb_base.specs.declared.settings.Settings.{Settings}
@@ -28,9 +28,20 @@ wait_pause (why.Spaced until) taken = Some (until - taken)
 wait_pause (why.WindowFull until) taken = Some (until - taken)
 wait_pause why.NoRoom taken = None
 
--- an answer has another digest than the expected one, to a GET begun less than the stale limit after the put's end
+-- how long after a stale answer its GET is asked anew, in milliseconds
+abbrev pub stale_pause : ℕ
+stale_pause = 100
+
+-- a GET that begins at a reading is late: it has to show no digest, or one whose put ended the stale limit before at
+-- least
+abbrev pub is_late : ℕ → ℕ → Option Expect → Bool
+is_late limit begun None = true
+is_late limit begun (Some expect) = nat_le (expect.since + limit) begun
+
+-- an answer to a GET that isn't late has another digest than the expected one
 abbrev pub DiffersInTime : ℕ → ℕ → Option Expect → Option (List ℕ) → Type 0
-DiffersInTime limit begun (Some expect) (Some digest) = (digest ≢ expect.digest) × (begun < expect.since + limit)
+DiffersInTime limit begun (Some expect) (Some digest) =
+    (digest ≢ expect.digest) × (is_late limit begun (Some expect) ≡ false)
 DiffersInTime limit begun expect digest = ⊥
 
 -- the GET that this answers is asked anew
@@ -43,13 +54,13 @@ abbrev pub PausesWhere : Type 0 → ℕ → Option ℕ → Type 0
 PausesWhere fact millis None = fact → ⊥
 PausesWhere fact millis (Some pause) = fact × (pause ≡ millis)
 
--- the pause after an entry for which a reading was taken: after a wait for a reading, and 100 ms after a stale answer
+-- the pause after an entry for which a reading was taken: after a wait for a reading, and after a stale answer
 abbrev pub PausesAfter : Geometry → Settings → List Entry → ℕ → EntryKind → Option ℕ → Type 0
 PausesAfter geometry settings past taken (Waited reason) pause = pause ≡ wait_pause reason taken
 PausesAfter geometry settings past taken (GetEnd block answer verify took) pause =
     PausesWhere
-    (IsAskedAnew settings.stale_limit (fetch_of past block) (answer_digest geometry.block_size verify answer)) 100
-    pause
+    (IsAskedAnew settings.stale_limit (fetch_of past block) (answer_digest geometry.block_size verify answer))
+    stale_pause pause
 PausesAfter geometry settings past taken kind pause = pause ≡ None
 
 -- on one thread the next reading is one that the pause has reached; it is known

@@ -84,7 +84,7 @@ failed_put_pauses differ = (
         _,
         refl,
         refl,
-        ((differ, omega arith), refl),
+        ((differ, refl), refl),
         inl (refl, omega arith),
         (
           1500,
