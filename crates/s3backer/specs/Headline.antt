@@ -8,6 +8,7 @@ use Rattle.sb_base.specs.declared.entry.Entry.{Entry}
 use Rattle.sb_world.specs.Told.{Gains, Rose}
 use Rattle.sb_world.specs.Streams.{Holds}
 use Rattle.sb_world.specs.Benches.{BenchParts, with_links, shut_bench}
+use Rattle.sb_world.specs.Worlds.{WorldView}
 use Rattle.sb_world.specs.declared.clock.Tick.{Tick}
 use Rattle.sb_world.specs.declared.clock.Tick.TheVariants as tick
 use Rattle.sb_world.specs.declared.world.Ask.{Ask}
@@ -43,7 +44,7 @@ use Rattle.sb_session.specs.Transcripts.{Exchange}
 use Rattle.sb_session.specs.Handshakes.{transmission_flags}
 use Rattle.sb_session.specs.Sessions.{Course}
 use Rattle.s3backer.specs.Plans.{PlanParts, naming_of, plan_base, default_settings}
-use Rattle.s3backer.specs.Views.{Telling, Gear, gear_in, View, view_of, WorldView}
+use Rattle.s3backer.specs.Views.{Telling, Gear, gear_in, View, view_of}
 use Rattle.s3backer.specs.Words.{IsTaken, IsRefused, NeedsMemory}
 use Rattle.s3backer.specs.Wordings.{SaysUsage}
 use Rattle.s3backer.specs.declared.words.Usage.{Usage}

@@ -5,4 +5,3 @@ pub mod Wordings
 pub mod Views
 pub mod Headline
 pub mod Fresh
-pub mod Outcomes

@@ -1,8 +1,7 @@
--- What a run can see of a world, of a bench and of the tape. Lists are newest first.
-use Rattle.std.specs.Prelude.{ℕ, Bool, List, Option}
+-- What a run can see of a bench and of the tape. Lists are newest first.
+use Rattle.std.specs.Prelude.{ℕ, List, Option}
 use Rattle.sb_base.specs.declared.entry.Entry.{Entry}
 use Rattle.sb_world.specs.Benches.{BenchParts}
-use Rattle.sb_world.specs.declared.world.Ask.{Ask}
 use Rattle.sb_world.specs.declared.clock.Tick.{Tick}
 use Rattle.sb_world.specs.declared.link.Call.{Call}
 use Rattle.sb_world.specs.declared.link.Link as link
@@ -74,18 +73,3 @@ view_of tells gear tape = record {
   error_faults = tells.write_faults gear.errors;
   tape = tape;
 }
-
--- a world: its next bench, whether it tells the one that was shut last, that one, what it was asked for, the lines that
--- it said, and its count of faults
-pub record WorldView (L C R S : Type 0) : Type 0 where
-  pub next : Option (BenchParts L C R S)
-  pub tells : Bool
-  pub last : Option (BenchParts L C R S)
-  pub asks : Option (List Ask)
-  pub said : Option (List (List ℕ))
-  pub faults : ℕ
-
-abbrev pub world_of : {L C R S : Type 0} → Option (BenchParts L C R S) → Bool → Option (BenchParts L C R S)
-    → Option (List Ask) → Option (List (List ℕ)) → ℕ → WorldView L C R S
-world_of next tells last asks said faults =
-    record { next = next; tells = tells; last = last; asks = asks; said = said; faults = faults }

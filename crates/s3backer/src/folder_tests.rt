@@ -1,15 +1,13 @@
-//! Directories as stores: in memory, and one of the file system.
+//! A directory in memory as the store.
 
-use crate::folder::HostFolder;
 use crate::tests::{
     DISC, EIO_1, HANDSHAKE, OK_1, OPENING, READ_512, joined, output, session, session_of, words_of,
 };
 use sb_base::Text;
 use sb_dirstore::DirLink;
 use sb_fakes::{MemoryFolder, Object};
-use sb_world::{FileGot, Folder, Got, Link, LinkFault, Page};
+use sb_world::{Link, LinkFault, Page};
 use std::alloc::{AllocError, Global};
-use std::fs;
 use std::test::Fail;
 
 /// A file of this name and these bytes.
@@ -148,30 +146,5 @@ fn a_listing_comes_in_pages_of_1000(rt: HostRuntime) -> Result<(), Fail> {
             marker = last;
         }
     }
-    Ok(())
-}
-
-#[test]
-fn a_directory_of_the_file_system_keeps_files(rt: HostRuntime) -> Result<(), Fail> {
-    let alloc = rt.alloc();
-    let path = "folder-of-a-test/inner";
-    let mut folder = HostFolder::open(rt, path)?;
-    let mut out = [0; 3];
-    assert!(rt; folder.read(b"a", &mut out) == Ok(FileGot::Absent));
-    assert!(rt; folder.write(b"a.tmp", b"abc").is_ok());
-    assert!(rt; folder.rename(b"a.tmp", b"a").is_ok());
-    assert!(rt; folder.read(b"a", &mut out) == Ok(FileGot::Bytes));
-    assert_eq!(rt; out, *b"abc");
-    assert!(rt; folder.read(b"a", &mut [0; 2]) == Ok(FileGot::OtherLength(3)));
-    assert!(rt; folder.rename(b"b", b"a").is_err());
-    let mut page = Page {
-        keys: Vec::new(alloc),
-    };
-    assert!(rt; folder.list(&mut page).is_ok());
-    assert!(rt; page.keys.len() == 1 && page.keys[0].bytes() == b"a".as_slice());
-    assert!(rt; folder.remove(b"a") == Ok(true));
-    assert!(rt; folder.remove(b"a") == Ok(false));
-    fs::remove_dir(&rt, path)?;
-    fs::remove_dir(&rt, "folder-of-a-test")?;
     Ok(())
 }

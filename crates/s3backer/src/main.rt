@@ -1,10 +1,8 @@
 //! One disk of fixed size whose blocks are objects of a store, served over NBD.
 #![tactic(auto)]
 
-mod folder;
 #[cfg(test)]
 mod folder_tests;
-mod host;
 mod plan;
 mod rehearsal;
 mod settings;
@@ -16,8 +14,8 @@ mod words;
 #[cfg(test)]
 mod write_tests;
 
-use crate::host::HostWorld;
 use crate::top::run;
+use sb_host::HostWorld;
 use sb_world::NoTape;
 use std::process::ExitCode;
 use std::{env, io};

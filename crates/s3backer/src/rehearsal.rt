@@ -1,18 +1,8 @@
 //! The program in a world in memory, which tells all that is asked of it.
 
 ghost use Rattle.std.specs.Prelude.{[], ◌∷◌, Some, None, true, IfOk, map, string_bytes};
-ghost use Rattle.sb_fakes.specs.Worlds.{next_of};
-ghost use Rattle.sb_fakes.specs.Told.{
-  ticks_of,
-  bytes_of,
-  faults_of,
-  entries_of,
-  asks_of,
-  said_of,
-  world_faults,
-};
+ghost use Rattle.sb_fakes.specs.Told.{ticks_of, bytes_of, faults_of, entries_of, world_view};
 ghost use Rattle.s3backer.specs.Headline.{RunEnds};
-ghost use Rattle.s3backer.specs.Views.{world_of};
 
 use crate::top::run;
 use sb_fakes::{HandClock, MemoryConn, MemoryWorld, RecordTape};
@@ -30,7 +20,7 @@ pub struct Rehearsal<L> {
 /// Runs the program on these words over a link, a clock, a source and two sinks. What `run` promises holds of the
 /// entries on the tape, the link's log, the clock's readings and the bytes of the connections, with nothing left untold
 /// but a tape or a log whose growth was refused.
-pub fn rehearse<L: Link + Drop>(
+pub fn rehearse<L: Link + Drop + Send>(
     alloc: Global,
     words: &[String],
     link: L,
@@ -49,10 +39,14 @@ pub fn rehearse<L: Link + Drop>(
           held = bytes_of;
           write_faults = faults_of;
         }) (map string_bytes words.now)
-        (world_of (Some (record { links = link ∷ []; clock = clock; input = input; output = output; errors = errors }))
-        true None (Some []) (Some []) 0)
-        (world_of (next_of done.world.links.items done.world.clocks.items done.world.inputs.items done.world.sinks.items) true done.world.last (asks_of done.world) (said_of done.world)
-        (world_faults done.world)) (Some []) (entries_of done.tape) done.status) }
+        (record {
+          next = Some (record { links = link ∷ []; clock = clock; input = input; output = output; errors = errors });
+          tells = true;
+          last = None;
+          asks = Some [];
+          said = Some [];
+          faults = 0;
+        }) (world_view done.world) (Some []) (entries_of done.tape) done.status) }
 {
     let mut links = Vec::new(alloc);
     links.push(link)?;

@@ -38,7 +38,7 @@ pub(crate) fn joined(alloc: Global, pieces: &[&[u8]]) -> Result<Text, AllocError
 }
 
 /// A session of a disk of 64k over a link, whose client sends these pieces and is read in pieces of so many bytes.
-pub(crate) fn session<L: Link + Drop>(
+pub(crate) fn session<L: Link + Drop + Send>(
     alloc: Global,
     link: L,
     pieces: &[&[u8]],
@@ -61,7 +61,7 @@ pub(crate) fn words_of(alloc: Global, words: &[&str]) -> Result<Vec<String>, All
 }
 
 /// A session of a disk of these words over a link, whose client sends these bytes.
-pub(crate) fn session_of<L: Link + Drop>(
+pub(crate) fn session_of<L: Link + Drop + Send>(
     alloc: Global,
     words: &[String],
     link: L,
@@ -79,7 +79,7 @@ pub(crate) fn session_of<L: Link + Drop>(
 }
 
 /// A session of a disk of 64k over a link and these ends of a connection.
-pub(crate) fn session_over<L: Link + Drop>(
+pub(crate) fn session_over<L: Link + Drop + Send>(
     alloc: Global,
     link: L,
     input: MemoryConn,

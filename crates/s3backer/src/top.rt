@@ -3,13 +3,14 @@
 ghost use Rattle.std.specs.Prelude.{◌≡◌, ◌≤◌, ◌<◌, ◌∷◌, [], ◌⊎◌, IfSome, IfOk, IfErr, codes, length, List, map};
 ghost use Rattle.std.specs.Prelude.{string_bytes};
 ghost use Rattle.sb_world.specs.Told.{Gains, Rose};
+ghost use Rattle.sb_world.specs.Worlds.{with_said};
 ghost use Rattle.sb_base.specs.Shapes.{IsSound};
 ghost use Rattle.sb_core.specs.Represents.{geometry_of};
 ghost use Rattle.sb_crew.specs.Desks.{HasRoom};
 ghost use Rattle.sb_names.specs.declared.names.TheConstants.{MAX_PREFIX};
 ghost use Rattle.s3backer.specs.Fresh.{IsFresh};
 ghost use Rattle.s3backer.specs.Plans.{naming_of};
-ghost use Rattle.s3backer.specs.Views.{telling, gear_of, view_of, world_of};
+ghost use Rattle.s3backer.specs.Views.{telling, gear_of, view_of};
 ghost use Rattle.s3backer.specs.Wordings.{SaysUsage};
 ghost use Rattle.s3backer.specs.Headline.{
   run_status,
@@ -303,10 +304,7 @@ where
     W::Link: Drop,
     W::Clock: Drop,
     ensures { RunEnds (telling W.Link.Link W.Clock.Clock W.Source.Source W.Sink.Sink) (map string_bytes words.now)
-        (world_of (W.next world.old) (W.tells world.old) (W.last world.old) (W.asks world.old) (W.said world.old)
-        (W.faults world.old))
-        (world_of (W.next world.new) (W.tells world.new) (W.last world.new) (W.asks world.new) (W.said world.new)
-        (W.faults world.new)) (T.told tape) (T.told result.tape) result.status }
+        (W.view world.old) (W.view world.new) (T.told tape) (T.told result.tape) result.status }
 {
     let plan = match plan(alloc, words) {
         Ok(plan) => plan,
@@ -338,10 +336,8 @@ where
 
 /// Says why words are not taken. Without memory for the wording it says that they aren't.
 fn say_usage<W: World>(alloc: Global, world: &mut W, usage: &Usage)
-    ensures says { SaysUsage usage.now (W.said world.old) (W.said world.new) }
-    ensures asks { W.asks world.new ≡ W.asks world.old }
-    ensures last { W.last world.new ≡ W.last world.old }
-    ensures faults { W.faults world.new ≡ W.faults world.old }
+    ensures says { SaysUsage usage.now (W.view world.old).said (W.view world.new).said }
+    ensures others { W.view world.new ≡ with_said (W.view world.new).said (W.view world.old) }
 {
     match usage_line(alloc, usage) {
         Ok(line) => world.say(&line),

@@ -1,8 +1,6 @@
 -- Which calls of a fake are to fail, and how its faults are counted.
-use Rattle.std.specs.Prelude.{ℕ, ◌+◌, ◌-◌, ◌^◌, min, Bool, true, false, nat_eq, Result, Ok, Err}
+use Rattle.std.specs.Prelude.{ℕ, ◌+◌, ◌-◌, ◌^◌, min, Bool, true, false, nat_eq}
 use Rattle.std.specs.List.{list_any}
-use Rattle.sb_world.specs.declared.world.MakeFault.{MakeFault}
-use Rattle.sb_world.specs.declared.world.MakeFault.TheVariants as make
 use Rattle.sb_fakes.specs.declared.faults.Faults.{Faults}
 
 -- a count with one more, at most the greatest u64
@@ -25,9 +23,3 @@ answered failed faults = record {
 -- the next call is among those that are to fail
 abbrev pub fails_next : Faults → Bool
 fails_next faults = list_any (λ call. nat_eq call (one_more faults.calls)) faults.planned.items
-
--- a bench wasn't made for another cause than memory
-abbrev pub make_failed : {T : Type 0} → Result T MakeFault → Bool
-make_failed (Ok bench) = false
-make_failed (Err make.Store) = true
-make_failed (Err make.Memory) = false

@@ -1,12 +1,11 @@
 -- What the worlds in memory tell.
 use Rattle.std.specs.Prelude.{ℕ, ◌≡◌, Bool, true, false, ◌&&◌, nat_le, nat_lt, List, length, Option, Some, drop}
 use Rattle.std.specs.Prelude.{Result, Ok, Err}
-use Rattle.sb_world.specs.Benches.{BenchParts}
+use Rattle.sb_world.specs.Worlds.{WorldView}
 use Rattle.sb_world.specs.declared.world.MakeFault.{MakeFault}
 use Rattle.sb_world.specs.declared.world.MakeFault.TheVariants as fault
 use Rattle.sb_base.specs.declared.entry.Entry.{Entry}
 use Rattle.sb_world.specs.declared.clock.Tick.{Tick}
-use Rattle.sb_world.specs.declared.world.Ask.{Ask}
 use Rattle.sb_fakes.specs.declared.clock.HandClock.{HandClock}
 use Rattle.sb_fakes.specs.declared.conn.MemoryConn.{MemoryConn}
 use Rattle.sb_fakes.specs.declared.tape.RecordTape.{RecordTape}
@@ -29,20 +28,16 @@ faults_of conn = conn.faults.count
 abbrev pub entries_of : RecordTape → Option (List Entry)
 entries_of tape = tape.entries
 
--- what a world was asked for
-abbrev pub asks_of : {L : Type 0} → MemoryWorld L → Option (List Ask)
-asks_of world = world.asks
-
--- the lines that a world said, and how often it has failed
-abbrev pub said_of : {L : Type 0} → MemoryWorld L → Option (List (List ℕ))
-said_of world = told_list world.said.items world.said_whole
-
-abbrev pub world_faults : {L : Type 0} → MemoryWorld L → ℕ
-world_faults world = world.faults
-
--- what the next bench of a world is made of
-abbrev pub next_parts : {L : Type 0} → MemoryWorld L → Option (BenchParts L HandClock MemoryConn MemoryConn)
-next_parts world = next_of world.links.items world.clocks.items world.inputs.items world.sinks.items
+-- what a world tells: all of it, but for lists whose growth was refused
+abbrev pub world_view : {L : Type 0} → MemoryWorld L → WorldView L HandClock MemoryConn MemoryConn
+world_view world = record {
+  next = next_of world.links.items world.clocks.items world.inputs.items world.sinks.items;
+  tells = true;
+  last = world.last;
+  asks = world.asks;
+  said = told_list world.said.items world.said_whole;
+  faults = world.faults;
+}
 
 -- a world has the parts of a bench with so many links
 abbrev pub has_parts : {L : Type 0} → ℕ → MemoryWorld L → Bool

@@ -7,24 +7,21 @@ ghost use Rattle.std.specs.Prelude.{
   None,
   [],
   ◌∷◌,
-  true,
   IfOk,
-  IfSome,
-  IsErrOf,
   MatchResult,
-  length,
   take,
   drop,
   vec_len,
 };
 ghost use Rattle.std.specs.Option.{option_copied};
-ghost use Rattle.sb_world.specs.Benches.{link_count, with_links, HasPauses};
-ghost use Rattle.sb_world.specs.Told.{Gains, CountsFaults};
+ghost use Rattle.sb_world.specs.Benches.{link_count, HasPauses};
+ghost use Rattle.sb_world.specs.Told.{Gains};
+ghost use Rattle.sb_world.specs.Worlds.{make_failed, with_last, MakesBench, SaysLine};
 ghost use Rattle.sb_world.specs.declared.world.Ask.TheVariants as ask;
-ghost use Rattle.sb_fakes.specs.Failing.{counted, make_failed};
-ghost use Rattle.sb_fakes.specs.Told.{said_of, next_parts, Hands, KeepsParts};
+ghost use Rattle.sb_fakes.specs.Failing.{counted};
+ghost use Rattle.sb_fakes.specs.Told.{world_view, Hands, KeepsParts};
 ghost use Rattle.sb_fakes.specs.Told as worlds;
-ghost use Rattle.sb_fakes.specs.Worlds.{next_of, told_list};
+ghost use Rattle.sb_fakes.specs.Worlds.{told_list};
 
 use crate::clock::HandClock;
 use crate::conn::MemoryConn;
@@ -139,7 +136,7 @@ fn take_front<X>(items: &mut Vec<X>, count: usize) -> Result<Vec<X>, AllocError>
     Ok(mem::replace(items, rest))
 }
 
-impl<L: Link + Drop> World for MemoryWorld<L> {
+impl<L: Link + Drop + Send> World for MemoryWorld<L> {
     type Link = L;
 
     type Clock = HandClock;
@@ -148,26 +145,11 @@ impl<L: Link + Drop> World for MemoryWorld<L> {
 
     type Sink = MemoryConn;
 
-    ghost faults = { λ world. world.faults };
-
-    ghost next = { λ world. next_of world.links.items world.clocks.items world.inputs.items world.sinks.items };
-
-    ghost tells = { λ _. true };
-
-    ghost last = { λ world. world.last };
-
-    ghost asks = { λ world. world.asks };
-
-    ghost said = { λ world. told_list world.said.items world.said_whole };
+    ghost view = { world_view };
 
     fn bench(&mut self, store: Option<&StorePlan>, links: u32) -> Result<MemoryBench<L>, MakeFault>
         requires pauses { HasPauses (option_copied store) }
-        ensures links { IfOk result (λ bench. length bench.links ≡ link_count (option_copied store.entry) links) }
-        ensures next { IfOk result (λ bench. IfSome (next_parts self.old)
-            (λ told. bench ≡ with_links (link_count (option_copied store.entry) links) told)) }
-        ensures asks { Gains self.old.asks self.new.asks (ask.Bench (option_copied store.entry) links ∷ []) }
-        ensures cause { CountsFaults self.old.faults self.new.faults (IsErrOf result MakeFault.Store) }
-        ensures frame { (self.new.last ≡ self.old.last) × (said_of self.new ≡ said_of self.old) }
+        ensures makes { MakesBench (world_view self.old) (world_view self.new) (option_copied store.entry) links result }
         ensures hands { Hands (link_count (option_copied store.entry) links) result self.old self.new }
         ensures faults { self.new.faults ≡ counted (make_failed result) self.old.faults }
     {
@@ -190,18 +172,14 @@ impl<L: Link + Drop> World for MemoryWorld<L> {
     }
 
     fn shut(&mut self, bench: MemoryBench<L>)
-        ensures last { self.new.last ≡ Some bench }
-        ensures faults { self.new.faults ≡ self.old.faults }
-        ensures frame { (self.new.asks ≡ self.old.asks) × (said_of self.new ≡ said_of self.old) }
+        ensures last { world_view self.new ≡ with_last (Some bench) (world_view self.old) }
         ensures parts { KeepsParts self.old self.new }
     {
         self.last = Some(bench);
     }
 
     fn say(&mut self, line: &[u8])
-        ensures told { Gains (said_of self.old) (said_of self.new) (line.now ∷ []) }
-        ensures faults { self.new.faults ≡ self.old.faults }
-        ensures frame { (self.new.asks ≡ self.old.asks) × (self.new.last ≡ self.old.last) }
+        ensures says { SaysLine (world_view self.old) (world_view self.new) line.now }
         ensures parts { KeepsParts self.old self.new }
     {
         match Text::of(self.alloc, line) {

@@ -2,5 +2,6 @@ pub mod Told
 pub mod Streams
 pub mod Calls
 pub mod Benches
+pub mod Worlds
 pub mod Wires
 pub mod Folders

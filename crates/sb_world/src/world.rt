@@ -1,11 +1,9 @@
 //! What a program is given.
 
-ghost use Rattle.std.specs.Prelude.{◌≡◌, ℕ, Bool, List, [], ◌∷◌, Option, IfOk, IfSome, IsErrOf, length};
-ghost use Rattle.sb_world.specs.Told.{Gains, CountsFaults};
+ghost use Rattle.std.specs.Prelude.{◌≡◌};
 ghost use Rattle.std.specs.Option.{option_copied};
-ghost use Rattle.sb_world.specs.Benches.{BenchParts, with_links, shut_bench, link_count, HasPauses};
-ghost use Rattle.sb_world.specs.declared.world.Ask.{Ask};
-ghost use Rattle.sb_world.specs.declared.world.Ask.TheVariants as ask;
+ghost use Rattle.sb_world.specs.Benches.{shut_bench, HasPauses};
+ghost use Rattle.sb_world.specs.Worlds.{WorldView, MakesBench, SaysLine, with_last};
 
 use crate::clock::Clock;
 use crate::link::Link;
@@ -56,33 +54,18 @@ pub enum Ask {
     },
 }
 
-/// What a program is given.
+/// What a program is given. Its parts may be handed to other threads.
 pub trait World {
-    type Link: Link;
+    type Link: Link + Send;
 
-    type Clock: Clock;
+    type Clock: Clock + Send;
 
-    type Source: Source;
+    type Source: Source + Send;
 
-    type Sink: Sink;
+    type Sink: Sink + Send;
 
-    /// How often it has failed.
-    ghost faults: { Self → ℕ };
-
-    /// What its next bench is made of, where it tells that: the links are the first of these.
-    ghost next: { Self → Option (BenchParts Self.Link Self.Clock Self.Source Self.Sink) };
-
-    /// Whether it tells the bench that was shut last. That never changes.
-    ghost tells: { Self → Bool };
-
-    /// The bench that was shut last, where it tells it.
-    ghost last: { Self → Option (BenchParts Self.Link Self.Clock Self.Source Self.Sink) };
-
-    /// What it was asked for so far, where it tells that.
-    ghost asks: { Self → Option (List Ask) };
-
-    /// The lines said so far, where it tells them.
-    ghost said: { Self → Option (List (List ℕ)) };
+    /// What it tells.
+    ghost view: { Self → WorldView Self.Link Self.Clock Self.Source Self.Sink };
 
     /// Makes a bench with so many links to a store, or with none where no store is given.
     fn bench(
@@ -91,26 +74,13 @@ pub trait World {
         links: u32,
     ) -> Result<Bench<Self::Link, Self::Clock, Self::Source, Self::Sink>, MakeFault>
         requires pauses { HasPauses (option_copied store) }
-        ensures links { IfOk result (λ bench. length bench.links ≡ link_count (option_copied store.entry) links) }
-        ensures next { IfOk result (λ bench. IfSome (next self.old)
-            (λ told. bench ≡ with_links (link_count (option_copied store.entry) links) told)) }
-        ensures asks { Gains (asks self.old) (asks self.new) (ask.Bench (option_copied store.entry) links ∷ []) }
-        ensures cause { CountsFaults (faults self.old) (faults self.new) (IsErrOf result MakeFault.Store) }
-        ensures stays { (IsErrOf result MakeFault.Store → ⊥) → faults self.new ≡ faults self.old }
-        ensures frame { (tells self.new ≡ tells self.old) × (last self.new ≡ last self.old)
-            × (said self.new ≡ said self.old) };
+        ensures { MakesBench (view self.old) (view self.new) (option_copied store.entry) links result };
 
     /// Takes a bench back.
     fn shut(&mut self, bench: Bench<Self::Link, Self::Clock, Self::Source, Self::Sink>)
-        ensures last { last self.new ≡ shut_bench (tells self.old) bench }
-        ensures faults { faults self.new ≡ faults self.old }
-        ensures frame { (tells self.new ≡ tells self.old) × (asks self.new ≡ asks self.old)
-            × (said self.new ≡ said self.old) };
+        ensures { view self.new ≡ with_last (shut_bench (view self.old).tells bench) (view self.old) };
 
     /// Says a line on standard error. A fault of that is left unsaid, and isn't counted.
     fn say(&mut self, line: &[u8])
-        ensures told { Gains (said self.old) (said self.new) (line.now ∷ []) }
-        ensures faults { faults self.new ≡ faults self.old }
-        ensures frame { (tells self.new ≡ tells self.old) × (asks self.new ≡ asks self.old)
-            × (last self.new ≡ last self.old) };
+        ensures { SaysLine (view self.old) (view self.new) line.now };
 }

@@ -1,5 +1,6 @@
-use Rattle.std.proofs.Common.{◌∙◌, Bool, ap, inr}
+use Rattle.std.proofs.Common.{Bool, ap, inr}
 use Rattle.sb_world.specs.Benches.{shut_bench}
+use Rattle.sb_world.specs.Worlds.{make_failed}
 use Rattle.s3backer.proofs.top.run.Goals as goal
 
 pub returns-in-Ok-bench : goal.returns-in-Ok-bench
@@ -7,13 +8,13 @@ returns-in-Ok-bench g c =
     inr (inr (inr (record {
       plan = c.in-Ok.plan;
       taken = c.in-Ok.ensures.plan;
-      asked = rw (c.shut.ensures.frame.1, ← c.plan-2.view_is) c.bench.ensures.asks;
+      asked = rw (c.shut.ensures, ← c.plan-2.view_is) c.bench.ensures.asked;
       bench = c.in-Ok-bench.bench;
       bench' = c.run_single-status.result.2;
-      next_is = c.in-Ok-bench.ensures.next;
-      last_is = c.shut.ensures.last
-          ∙ ap (λ (t : Bool). shut_bench t c.run_single-status.result.2) c.bench.ensures.frame.0;
+      next_is = c.in-Ok-bench.ensures.next_is;
+      last_is = rw (c.shut.ensures)
+          (ap (λ (t : Bool). shut_bench t c.run_single-status.result.2) c.bench.ensures.same_tells);
       serves = c.run_single-status.ensures;
-      faults_stay = c.shut.ensures.faults ∙ c.bench.ensures.stays (λ no. cc);
-      quiet = c.shut.ensures.frame.2 ∙ c.bench.ensures.frame.2;
+      faults_stay = rw (c.shut.ensures) (c.bench.ensures.counted.stays (ap (λ made. make_failed made) c.in-Ok-bench.is));
+      quiet = rw (c.shut.ensures) c.bench.ensures.same_said;
     })))

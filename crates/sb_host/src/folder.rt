@@ -1,12 +1,11 @@
 //! A directory of the file system.
 //!
-//! This adapter is trusted: it counts its faults, and tells nothing of files. What it decides of an outcome stands in small
-//! functions, whose clauses are exact.
+//! What it decides of an outcome stands in small functions, whose clauses are exact.
 
 ghost use Rattle.std.specs.Prelude.{◌≡◌, None};
 ghost use Rattle.sb_world.specs.Told.{CountsJust};
 ghost use Rattle.sb_world.specs.Folders.{folder_failed};
-ghost use Rattle.s3backer.specs.Outcomes.{IsFound, IsSettled, fault_of_kind, count_after};
+ghost use Rattle.sb_host.specs.Outcomes.{IsFound, IsSettled, fault_of_kind, count_after};
 
 use sb_base::Text;
 use sb_world::{FileGot, Folder, FolderFault, Page};

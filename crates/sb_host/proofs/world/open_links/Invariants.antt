@@ -1,5 +1,5 @@
 use Rattle.std.proofs.Common.{◌≡◌, vec_len}
-use Rattle.s3backer.proofs.host.open_links.Given as goal
+use Rattle.sb_host.proofs.world.open_links.Given as goal
 
 -- so many links were made
 abbrev pub invariant-loop-i : goal.invariant-loop-i

@@ -1,5 +1,6 @@
 -- What the adapters of the system decide of an outcome.
-use Rattle.std.specs.Prelude.{ℕ, ◌≡◌, ◌+◌, ◌-◌, ◌^◌, min, Bool, true, false, Result, Ok, Err, IsErr}
+use Rattle.std.specs.Prelude.{ℕ, ◌≡◌, ◌+◌, ◌-◌, ◌^◌, min, Bool, true, false, Result, Ok, Err, IsErr, Option, Some}
+use Rattle.std.specs.Prelude.{None, ℤ, pos, ◌<ℤ◌}
 use Rattle.std.specs.Fs.{file_type, IsFile}
 use Rattle.std.specs.declared.fs.attrs.Metadata.{Metadata}
 use Rattle.std.specs.IoError.{error_kind}
@@ -47,8 +48,7 @@ abbrev pub fault_of_making : ErrorKind → MakeFault
 fault_of_making kind.OutOfMemory = make.Memory
 fault_of_making _ = make.Store
 
--- no bench was made for another cause than memory
-abbrev pub make_failed : {T : Type 0} → Result T MakeFault → Bool
-make_failed (Ok bench) = false
-make_failed (Err make.Store) = true
-make_failed (Err make.Memory) = false
+-- the moment so many seconds behind the begin of 1970, as far as an i64 goes; one before it where they can't be had
+abbrev pub IsMoment : Option ℕ → ℤ → Type 0
+IsMoment None moment = moment <ℤ pos 0
+IsMoment (Some seconds) moment = moment ≡ pos (min seconds (2 ^ 63 - 1))
