@@ -141,7 +141,7 @@ unfolding IsDistinct
 IsListed-none files = record { each = tt; all = λ name some. some_false some; once = tt }
 
 -- a name is in a list that has an equal one
-among : (names : List (List ℕ)) (name : List ℕ) → list_any (pointwise eqb name) names ≡ true → Contains names name
+pub among : (names : List (List ℕ)) (name : List ℕ) → list_any (pointwise eqb name) names ≡ true → Contains names name
 among names name some =
     let (k, other, within, at, same) = Any-from_list_any (pointwise eqb name) names some in
     let is : name ≡ other = (bytes_eq-Decides name other).0 same in

@@ -2,3 +2,4 @@ pub mod Taking
 pub mod NameLemmas
 pub mod FileLemmas
 pub mod VersionLemmas
+pub mod Collecting

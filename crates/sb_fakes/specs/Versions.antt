@@ -4,11 +4,12 @@ use Rattle.std.specs.Prelude.{true, false, Result, Ok, Err, if◌then◌else◌,
 use Rattle.std.specs.Prelude.{slice_index_or, slice_get}
 use Rattle.std.specs.Option.{option_map}
 use Rattle.std.specs.Cmp.Lexicographic.{pointwise}
+use Rattle.sb_world.specs.Folders.{Files}
 use Rattle.sb_world.specs.declared.link.Got.{Got}
 use Rattle.sb_world.specs.declared.link.LinkFault.{LinkFault}
 use Rattle.sb_world.specs.declared.link.LinkFault.TheVariants.{Failed, Memory}
 use Rattle.sb_world.specs.declared.link.HeadText.{HeadText}
-use Rattle.sb_fakes.specs.Objects.{bodies_of, body_in, no_texts, texts_of, Shows, Heads}
+use Rattle.sb_fakes.specs.Objects.{bodies_of, body_in, no_texts, texts_of, Shows, Heads, Lists}
 use Rattle.sb_fakes.specs.Failing.{one_more}
 use Rattle.sb_fakes.specs.declared.timed.Show.{Show}
 use Rattle.sb_fakes.specs.declared.timed.TimedStore.{TimedStore}
@@ -76,6 +77,11 @@ shown_version store name =
     body_shown (bodies_of store.start.items name) (versions_of store.histories.items name)
     (chosen_of store.shows.items (one_more store.gets))
 
+-- what a name is at its newest version that ended ok
+abbrev pub newest_body : TimedStore → List ℕ → Option (List ℕ)
+newest_body store name =
+    body_shown (bodies_of store.start.items name) (versions_of store.histories.items name) None
+
 -- a GET that is to fail has status 503, and any other shows just what the object is
 abbrev pub Answers : Bool → Option (List ℕ) → Option (List ℕ) → Result Got LinkFault → List ℕ → Type 0
 Answers true verify body result out = result ≡ Err (Failed 503)
@@ -104,12 +110,10 @@ abbrev pub HeadAnswers : Bool → Option HeadText → Result (Option HeadText) L
 HeadAnswers true texts result = result ≡ Err (Failed 503)
 HeadAnswers false texts result = Heads texts result
 
--- a listing that is to fail has status 503, and any other may lack memory alone
-abbrev pub ListAnswers : Bool → Result Bool LinkFault → Type 0
-ListAnswers true result = result ≡ Err (Failed 503)
-ListAnswers false (Ok more) = Unit {0}
-ListAnswers false (Err (Failed status)) = ⊥
-ListAnswers false (Err Memory) = Unit {0}
+-- a listing that is to fail has status 503, and any other has the next page of all objects, or lacks memory
+abbrev pub ListAnswers : Bool → List ℕ → List ℕ → List (List ℕ) → Result Bool LinkFault → Files → Type 0
+ListAnswers true prefix marker names result objects = result ≡ Err (Failed 503)
+ListAnswers false prefix marker names result objects = Lists prefix marker names result objects
 
 -- what a store began with, and what is chosen for its GETs, stay
 abbrev pub KeepsChoices : TimedStore → TimedStore → Type 0

@@ -1,14 +1,17 @@
 //! A store in memory whose GETs may show older versions.
 
 ghost use Rattle.std.specs.Prelude.{◌≡◌, false, Ok, Some, None, [], ◌∷◌, IfOk, OnOk, OnErr};
-ghost use Rattle.std.specs.Option.{option_copied};
+ghost use Rattle.std.specs.Option.{option_copied, is_some};
+ghost use Rattle.sb_world.specs.Folders.{HasNames};
+ghost use Rattle.sb_pages.specs.Listings.{IsPage};
+ghost use Rattle.sb_fakes.specs.Names.{AddsName};
 ghost use Rattle.sb_world.specs.Told.{Gains, CountsFaults};
 ghost use Rattle.sb_world.specs.Calls as calls;
 ghost use Rattle.sb_world.specs.Calls.{get_reply, head_reply, list_reply, fault_of, HasFailed, IsAsked};
 ghost use Rattle.sb_world.specs.declared.link.Call.TheVariants as call;
 ghost use Rattle.sb_fakes.specs.Failing.{fails_next, answered, counted, one_more};
 ghost use Rattle.sb_fakes.specs.Versions as versions;
-ghost use Rattle.sb_fakes.specs.Versions.{versions_of, chosen_of, shown_version, Answers, Changes};
+ghost use Rattle.sb_fakes.specs.Versions.{versions_of, chosen_of, shown_version, newest_body, Answers, Changes};
 ghost use Rattle.sb_fakes.specs.Versions.{HeadAnswers, ListAnswers, KeepsChoices, KeepsObjects};
 
 use crate::content::{Content, fetch, no_texts};
@@ -165,24 +168,32 @@ impl TimedStore {
 
     /// Answers a listing.
     fn names(&mut self, prefix: &[u8], marker: &[u8], page: &mut Page) -> Result<bool, LinkFault>
-        ensures listed { ListAnswers (fails_next self.old.faults) result }
+        ensures listed { ListAnswers (fails_next self.old.faults) prefix.now marker.now page.new result
+            (newest_body self.old) }
         ensures stays { KeepsObjects self.old self.new × (self.new.log ≡ self.old.log) }
         ensures calls { (self.new.gets ≡ self.old.gets) × (self.new.faults ≡ answered false self.old.faults) }
     {
         if self.faults.next_call_fails() {
             return Err(UNAVAILABLE);
         }
-        match self.all_names() {
-            Ok(names) => {
-                page.keys = names;
-                Ok(next_page(prefix, marker, page))
-            }
+        match self.names_after(prefix, marker, page) {
+            Ok(more) => Ok(more),
             Err(_) => Err(LinkFault::Memory),
         }
     }
 
+    /// The names of a page, and whether more follow.
+    fn names_after(&self, prefix: &[u8], marker: &[u8], page: &mut Page) -> Result<bool, AllocError>
+        ensures { IfOk result (λ more. IsPage prefix.now marker.now page.new more (newest_body self.now)) }
+    {
+        page.keys = self.all_names()?;
+        Ok(next_page(prefix, marker, page))
+    }
+
     /// The names of all objects that are there, each once.
-    fn all_names(&self) -> Result<Vec<Text>, AllocError> {
+    fn all_names(&self) -> Result<Vec<Text>, AllocError>
+        ensures { IfOk result (λ names. HasNames names.items (newest_body self.now)) }
+    {
         let mut names = Vec::new(self.alloc);
         for object in &self.start {
             self.add_name(&object.name, &mut names)?;
@@ -194,13 +205,21 @@ impl TimedStore {
     }
 
     /// Adds a name, if the object is there and the name isn't among them.
-    fn add_name(&self, name: &Text, names: &mut Vec<Text>) -> Result<(), AllocError> {
-        let start = body_of(&self.start, name.bytes()).map(Text::bytes);
-        let is_there = body_shown(&self.histories, start, name.bytes(), None).is_some();
-        if is_there && !is_among(name.bytes(), names) {
+    fn add_name(&self, name: &Text, names: &mut Vec<Text>) -> Result<(), AllocError>
+        ensures { IfOk result (λ _. AddsName name.now (newest_body self.now) names.old.items names.new.items) }
+    {
+        if self.is_there(name.bytes()) && !is_among(name.bytes(), names) {
             names.push(name.copy(self.alloc)?)?;
         }
         Ok(())
+    }
+
+    /// Whether there is an object of a name, at its newest version that ended ok.
+    fn is_there(&self, name: &[u8]) -> bool
+        ensures { result ≡ is_some (newest_body self.now name.now) }
+    {
+        let start = body_of(&self.start, name).map(Text::bytes);
+        body_shown(&self.histories, start, name, None).is_some()
     }
 
     /// Counts the fault of an answer.
@@ -298,7 +317,8 @@ impl Link for TimedStore {
         ensures told { Gains self.old.log self.new.log
             (call.List prefix.now marker.now (list_reply result page.new) ∷ []) }
         ensures cause { CountsFaults self.old.faults.count self.new.faults.count (HasFailed result) }
-        ensures listed { ListAnswers (fails_next self.old.faults) result }
+        ensures listed { ListAnswers (fails_next self.old.faults) prefix.now marker.now page.new result
+            (newest_body self.old) }
         ensures faults { self.new.faults ≡ answered (calls.has_failed result) self.old.faults }
         ensures stays { KeepsObjects self.old self.new × (self.new.gets ≡ self.old.gets) }
     {
