@@ -188,23 +188,43 @@ with concurrent.futures.ThreadPoolExecutor() as pool:
         expect(f"the random session {seed}", held, True)
 
 
-def peak(size):
+def peak(size, length):
+    """The peak memory of a session that reads the first bytes of an empty disk, and reads them right."""
     top = tempfile.mkdtemp(dir=memory)
     child = subprocess.Popen(["/usr/bin/env", "python3", "-c",
                               "import resource, subprocess, sys; "
-                              "subprocess.run(sys.argv[1:], input=sys.stdin.buffer.read(), stdout=subprocess.DEVNULL); "
-                              "print(resource.getrusage(resource.RUSAGE_CHILDREN).ru_maxrss)",
+                              "done = subprocess.run(sys.argv[1:], input=sys.stdin.buffer.read(), stdout=subprocess.PIPE); "
+                              "print(resource.getrusage(resource.RUSAGE_CHILDREN).ru_maxrss, done.returncode, "
+                              "done.stdout.hex())",
                               program, "--stdio", "--test", f"--size={size}", os.path.join(top, "disk")],
                              stdin=subprocess.PIPE, stdout=subprocess.PIPE)
     out, _ = child.communicate(OPEN + read(1, 0, 512) + DISC, timeout=60)
     shutil.rmtree(top)
-    return int(out)
+    most, status, output = out.split()
+    expect(f"a session of {size}", (int(status), bytes.fromhex(output.decode())),
+           (0, export(length) + reply(1, bytes(512))))
+    return int(most)
 
 
-small, large = peak("64k"), peak("1t")
+small, large = peak("64k", 65536), peak("1t", 2**40)
 if abs(large - small) >= 1024:
     failed += 1
     print(f"peak memory: {small} KiB for 64k, {large} KiB for 1t")
+
+
+def without_memory():
+    """A start that gets no memory for its buffers."""
+    top = tempfile.mkdtemp(dir=memory)
+    words = ["--stdio", "--test", "--size=64k", os.path.join(top, "disk")]
+    done = subprocess.run(["prlimit", "--as=20000000", program, *words], input=OPEN + DISC, capture_output=True, timeout=60)
+    shutil.rmtree(top)
+    expect("without memory", (done.returncode, done.stdout, done.stderr), (12, b"", b"s3backer: out of memory\n"))
+
+
+if shutil.which("prlimit"):
+    without_memory()
+else:
+    print("skipped: prlimit")
 
 print(f"sessions: {'ok' if failed == 0 else f'{failed} failed'}")
 sys.exit(1 if failed else 0)
