@@ -1,7 +1,7 @@
 #!/usr/bin/env python3
 """Compares the signatures of sb_sign with those of botocore. Usage: signatures.py [SEED]
 
-The program of crates/sign_rows draws requests from the seed, and prints each with its signature. botocore encodes and
+The program of crates/test_signatures draws requests from the seed, and prints each with its signature. botocore encodes and
 signs the same requests, and what it gives has to be the same. Without SEED the seed comes from the clock. Where
 botocore isn't installed, the script prints that it is skipped.
 """
@@ -16,7 +16,7 @@ except ImportError:
     print("skipped: signatures")
     sys.exit(0)
 
-CRATE = os.path.join(os.path.dirname(os.path.dirname(os.path.abspath(__file__))), "crates", "sign_rows")
+CRATE = os.path.join(os.path.dirname(os.path.dirname(os.path.abspath(__file__))), "crates", "test_signatures")
 COUNT = 400
 # What a prefix may have: 20 to 7e, but for the bytes that a listing would escape.
 PREFIX = set(map(chr, range(0x20, 0x7F))) - set("<>&\"'")

@@ -1,5 +1,0 @@
-use Rattle.std.proofs.Common.{[], ◌∷◌}
-use Rattle.sb_turn_rows.proofs.adding.add.Given as goal
-
-abbrev pub ghosts-leave_with : goal.ghosts-leave_with
-ghosts-leave_with g a = record { made = (a.pass.now.seat.me.0.number, a.amount) ∷ [] }
