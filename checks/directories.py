@@ -4,12 +4,13 @@
 What one run flushed has to be there in the next, also where the first was killed. The client here is independent of the
 program; a library for NBD is used beside it where it is installed.
 """
-import hashlib, os, random, re, shutil, signal, subprocess, sys, tempfile, threading, time
+import filecmp, hashlib, os, random, re, shutil, signal, subprocess, sys, tempfile, threading, time
 
 program = os.path.abspath(sys.argv[1])
 OPEN = bytes.fromhex("00000003 49484156454f5054 00000001 00000000")
 READ, WRITE, DISC, FLUSH = 0, 1, 2, 3
 BLOCK = 4096
+CACHED_BLOCKS = 1000
 failed = 0
 
 
@@ -320,7 +321,7 @@ def old_versions(top):
     """A block's file is made an old one behind the program's back: for a while, and then for good."""
     directory = os.path.join(top, "stale")
     path = os.path.join(directory, "00000000")
-    client = Client("64k", directory)
+    client = Client("8m", directory)
     client.write(0, b"A" * BLOCK)
     expect("a flush", client.flush(), 0)
     old = open(path, "rb").read()
@@ -334,18 +335,76 @@ def old_versions(top):
             other.write(body)
         os.rename(path + ".other", path)
 
-    expect("another block", client.read(BLOCK, 1), (0, b"\0"))
+    def read_others():
+        """As many other blocks as the cache holds, so that block 0 leaves it."""
+        read = {client.read(block * BLOCK, 1) for block in range(1, CACHED_BLOCKS + 1)}
+        expect("other blocks", read, {(0, b"\0")})
+
     show(old)
+    expect("a block that is cached", client.read(0, BLOCK), (0, new))
+    read_others()
     later = threading.Timer(0.35, show, [new])
     later.start()
     expect("a block whose store shows an old version for a while", client.read(0, BLOCK), (0, new))
     later.join()
-    expect("another block", client.read(BLOCK, 1), (0, b"\0"))
+    read_others()
     show(old)
     begun = time.monotonic()
     expect("a block whose store shows an old version for good", client.read(0, BLOCK), (5, b""))
     expect("it was asked anew for seconds", 2 < time.monotonic() - begun < 7, True)
     expect("the end", client.end(), (0, b""))
+
+
+def cached_reads(top):
+    """Reads of what was just written, and of what was just read, make no file access."""
+    if shutil.which("strace") is None:
+        return print("skipped: strace")
+    directory, log = os.path.join(top, "cached"), os.path.join(top, "cached.log")
+    client = Client("1m", directory, under=["strace", "-f", "-o", log, "-e", "trace=%file,write"])
+    for block in range(16):
+        client.write(block * BLOCK, bytes([block + 1]) * BLOCK)
+    expect("a block of a hole", client.read(100 * BLOCK, 1), (0, b"\0"))
+    for turn in range(2):
+        for block in range(16):
+            expect("a written block", client.read(block * BLOCK, BLOCK), (0, bytes([block + 1]) * BLOCK))
+        expect("a block of a hole", client.read(100 * BLOCK, 1), (0, b"\0"))
+    expect("no file but the block of the hole", block_files(log), ["00000064"])
+    expect("a flush", client.flush(), 0)
+    expect("the end", client.end(), (0, b""))
+    put = {f"{block:08x}" for block in range(16)}
+    expect("the files of the flush", {name.removesuffix(".tmp") for name in block_files(log)[1:]}, put)
+
+
+def block_files(log):
+    """The names of the objects that the calls of a log of strace have, in the order of time."""
+    return re.findall(r'"[^"]*?/?([0-9a-f]{8}(?:\.tmp)?)"', open(log).read())
+
+
+def image(top):
+    """A file system of 64 MiB goes through the disk and comes back whole."""
+    path = "/sbin:/usr/sbin:" + os.environ.get("PATH", "")
+    make, check = shutil.which("mkfs.ext4", path=path), shutil.which("e2fsck", path=path)
+    if make is None or check is None:
+        return print("skipped: mkfs.ext4")
+    size, step, sources = 64 << 20, 128 << 10, os.path.dirname(os.path.abspath(__file__))
+    made, back = os.path.join(top, "made.img"), os.path.join(top, "back.img")
+    subprocess.run([make, "-q", "-d", sources, made, "64M"], check=True, capture_output=True)
+    client = Client("64m", os.path.join(top, "image"))
+    with open(made, "rb") as whole:
+        for place in range(0, size, step):
+            client.write(place, whole.read(step))
+    expect("a flush", client.flush(), 0)
+    expect("the end", client.end(), (0, b""))
+    client = Client("64m", os.path.join(top, "image"))
+    with open(back, "wb") as whole:
+        for place in range(0, size, step):
+            error, body = client.read(place, step)
+            expect("a read of the image", error, 0)
+            whole.write(body)
+    expect("the end", client.end(), (0, b""))
+    expect("the image", filecmp.cmp(made, back, shallow=False), True)
+    found = subprocess.run([check, "-fn", back], capture_output=True)
+    expect("the file system", found.returncode, 0)
 
 
 def by_a_library(top):
@@ -376,6 +435,7 @@ for turn in range(2):
 
 signal.alarm(300)
 top = tempfile.mkdtemp()
+memory = tempfile.mkdtemp(dir="/dev/shm" if os.path.isdir("/dev/shm") else None)
 try:
     several_runs(os.path.join(top, "plain"), "", False)
     several_runs(os.path.join(top, "prefixed"), "p+", False)
@@ -389,8 +449,11 @@ try:
     synced(top)
     spaced_puts(top)
     old_versions(top)
+    cached_reads(top)
+    image(memory)
     by_a_library(top)
 finally:
     shutil.rmtree(top)
+    shutil.rmtree(memory)
 print(f"directories: {'ok' if failed == 0 else f'{failed} failed'}")
 sys.exit(1 if failed else 0)

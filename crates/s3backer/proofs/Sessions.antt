@@ -14,7 +14,8 @@ use Rattle.sb_history.specs.Visibility.{Delays}
 use Rattle.sb_history.specs.Soundness.{IsSoundHistory}
 use Rattle.sb_history.specs.Requests.{RequestLog}
 use Rattle.sb_core.specs.declared.machine.Core.{Core}
-use Rattle.sb_core.specs.Represents.{Represents, nothing_found}
+use Rattle.sb_core.specs.Cores.{Represents}
+use Rattle.sb_core.specs.Represents.{nothing_found}
 use Rattle.sb_crew.specs.Bases.{Base, base_of}
 use Rattle.sb_crew.specs.Scenes.{Deed, Scene, followed}
 use Rattle.sb_crew.specs.declared.calls.FlushFault.{FlushFault}

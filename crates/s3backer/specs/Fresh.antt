@@ -2,8 +2,8 @@
 use Rattle.std.specs.Prelude.{◌≡◌, []}
 use Rattle.sb_base.specs.declared.geometry.Geometry.{Geometry}
 use Rattle.sb_core.specs.declared.machine.Core.{Core}
-use Rattle.sb_core.specs.Represents.{Represents, geometry_of, settings_of, reading_of}
-use Rattle.sb_core.specs.Progress.{IsIdle}
+use Rattle.sb_core.specs.Cores.{Represents, geometry_of, settings_of, reading_of}
+use Rattle.sb_core.specs.Leads.{IsIdle}
 use Rattle.s3backer.specs.Plans.{default_settings}
 
 -- a core of this geometry that nothing was asked of

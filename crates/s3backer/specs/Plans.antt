@@ -19,13 +19,13 @@ abbrev pub naming_of : PlanParts → Naming
 naming_of plan = record { prefix = plan.prefix; hashed = plan.hashed; meta = sizes_of plan.geometry }
 
 -- the settings of every disk: puts of a block are 500 ms apart, the MD5s of the last 10,000 blocks that were put are
--- kept for 10 s, the cache has one block, and a stale GET is asked anew for 5 s
+-- kept for 10 s, 1,000 blocks are cached, all of which may be dirty, and a stale GET is asked anew for 5 s
 abbrev pub default_settings : Settings
 default_settings = record {
   min_write_delay = 500;
   md5_time = 10000;
   md5_size = 10000;
-  cache_size = 1;
+  cache_size = 1000;
   write_delay = 250;
   clean_time = 0;
   max_dirty = 0;

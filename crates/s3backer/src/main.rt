@@ -8,6 +8,8 @@ mod rehearsal;
 mod settings;
 #[cfg(test)]
 mod tests;
+#[cfg(test)]
+mod time_tests;
 mod top;
 mod wording;
 mod words;

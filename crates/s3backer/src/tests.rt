@@ -5,7 +5,7 @@ ghost use Rattle.sb_base.specs.Shapes.{IsSound};
 
 use crate::rehearsal::{Rehearsal, rehearse};
 use crate::settings::SETTINGS;
-use sb_base::{Geometry, Part, Text};
+use sb_base::{Geometry, Part, Settings, Text};
 use sb_core::Core;
 use sb_crew::{Alone, Calls, Desk, Names};
 use sb_fakes::{HandClock, MemoryConn, PlainStore, TimedStore};
@@ -259,7 +259,11 @@ fn a_block_of_16_mib_is_read(rt: HostRuntime) -> Result<(), Fail> {
         Ok(desk) => desk,
         Err(_) => return Err(Fail::from("no memory")),
     };
-    let core = Core::new(alloc, geometry, SETTINGS)?;
+    let settings = Settings {
+        cache_size: 2,
+        ..SETTINGS
+    };
+    let core = Core::new(alloc, geometry, settings)?;
     let mut disk = Alone::new(core, plain_names(alloc, &geometry), NoTape);
     let mut out = [1];
     let part = Part {

@@ -5,7 +5,7 @@ ghost use Rattle.std.specs.Prelude.{string_bytes};
 ghost use Rattle.sb_world.specs.Told.{Gains, Rose};
 ghost use Rattle.sb_world.specs.Worlds.{with_said};
 ghost use Rattle.sb_base.specs.Shapes.{IsSound};
-ghost use Rattle.sb_core.specs.Represents.{geometry_of};
+ghost use Rattle.sb_core.specs.Cores.{geometry_of};
 ghost use Rattle.sb_crew.specs.Desks.{HasRoom};
 ghost use Rattle.sb_names.specs.declared.names.TheConstants.{MAX_PREFIX};
 ghost use Rattle.s3backer.specs.Fresh.{IsFresh};

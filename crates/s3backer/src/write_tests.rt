@@ -7,7 +7,7 @@ use crate::tests::{
     DISC, HANDSHAKE, OPENING, errors, failing_store, joined, output, plain_names, session,
     session_over,
 };
-use sb_base::{Geometry, Kind, Line, Part, Text};
+use sb_base::{Geometry, Kind, Line, Part, Settings, Text};
 use sb_core::Core;
 use sb_crew::{Alone, Calls, Desk};
 use sb_fakes::{HandClock, MemoryConn, PlainStore, TimedStore};
@@ -16,14 +16,14 @@ use std::alloc::{AllocError, Global};
 use std::test::Fail;
 
 /// The types of requests.
-const READ: u16 = 0;
+pub(crate) const READ: u16 = 0;
 
-const WRITE: u16 = 1;
+pub(crate) const WRITE: u16 = 1;
 
-const FLUSH: u16 = 3;
+pub(crate) const FLUSH: u16 = 3;
 
 /// A request without its bytes.
-fn request(
+pub(crate) fn request(
     alloc: Global,
     kind: u16,
     cookie: u64,
@@ -40,7 +40,7 @@ fn request(
 }
 
 /// A reply without its bytes.
-fn reply(alloc: Global, error: u32, cookie: u64) -> Result<Vec<u8>, AllocError> {
+pub(crate) fn reply(alloc: Global, error: u32, cookie: u64) -> Result<Vec<u8>, AllocError> {
     let mut bytes = Vec::new(alloc);
     bytes.extend_from_slice(b"\x67\x44\x66\x98")?;
     bytes.extend_from_slice(&error.to_be_bytes())?;
@@ -124,25 +124,25 @@ impl Tape for Kinds {
     }
 }
 
-#[test]
-fn a_write_over_a_border_puts_the_first_block_to_make_room(rt: HostRuntime) -> Result<(), Fail> {
-    let alloc = rt.alloc();
+/// Whether a write over the border of the first two blocks adds these entries, over a cache of so many blocks.
+fn border_adds(alloc: Global, cache_size: u32, wanted: &[u8]) -> Result<bool, Fail>
+    requires { (0 < cache_size) × (cache_size ≤ 1048576) }
+{
     let geometry = Geometry::make(65_536, 4096)?;
-    let mut desk = match Desk::new(
-        alloc,
-        PlainStore::new(alloc),
-        HandClock::new(alloc, 0, 0, false),
-        &geometry,
-    ) {
-        Ok(desk) => desk,
-        Err(_) => return Err(Fail::from("no memory")),
+    let settings = Settings {
+        cache_size,
+        ..SETTINGS
+    };
+    let store = PlainStore::new(alloc);
+    let clock = HandClock::new(alloc, 0, 0, false);
+    let Ok(mut desk) = Desk::new(alloc, store, clock, &geometry) else {
+        return Err(Fail::from("no memory"));
     };
     let kinds = Kinds {
         text: Vec::new(alloc),
     };
-    let core = Core::new(alloc, geometry, SETTINGS)?;
+    let core = Core::new(alloc, geometry, settings)?;
     let mut disk = Alone::new(core, plain_names(alloc, &geometry), kinds);
-    assert!(rt; disk.flush(&mut desk).is_ok());
     let first = Part {
         block: 0,
         offset: 2048,
@@ -153,12 +153,21 @@ fn a_write_over_a_border_puts_the_first_block_to_make_room(rt: HostRuntime) -> R
         offset: 0,
         length: 2048,
     };
-    assert!(rt; disk.write(&mut desk, first, &[0x41; 2048]).is_ok());
-    assert!(rt; disk.write(&mut desk, second, &[0x42; 2048]).is_ok());
+    let done = disk.flush(&mut desk).is_ok()
+        && disk.write(&mut desk, first, &[0x41; 2048]).is_ok()
+        && disk.write(&mut desk, second, &[0x42; 2048]).is_ok();
     let (_core, kinds) = disk.finish();
-    let wanted =
+    Ok(done && kinds.text.as_slice() == wanted)
+}
+
+#[test]
+fn a_write_over_a_border_puts_the_first_block_to_make_room(rt: HostRuntime) -> Result<(), Fail> {
+    let alone =
         b"FlushBegin 0\nFlushDone 0\nGetBegin 0\nGetEnd 0\nWrite 0\nPutBegin 0\nPutEnd 0\nDropped 0\nGetBegin 1\nGetEnd 1\nWrite 1\n";
-    assert_eq!(rt; kinds.text.as_slice(), wanted.as_slice());
+    let both =
+        b"FlushBegin 0\nFlushDone 0\nGetBegin 0\nGetEnd 0\nWrite 0\nGetBegin 1\nGetEnd 1\nWrite 1\n";
+    assert!(rt; border_adds(rt.alloc(), 1, alone.as_slice())?);
+    assert!(rt; border_adds(rt.alloc(), 2, both.as_slice())?);
     Ok(())
 }
 

@@ -1,8 +1,9 @@
 -- What each change of a core leaves true of its fields.
 use Rattle.std.proofs.Common.{ℕ, ◌≡◌, ◌≢◌, ◌<◌, ◌≤◌, Bool, true, false, nat_eq, if◌then◌else◌, List, Option, Some, None}
 use Rattle.std.proofs.Common.{is_some, refl, sym, ◌∙◌, ap, cond, eqb, arith}
-use Rattle.std.proofs.lemmas.Bool.{eqb-true}
-use Rattle.std.specs.FinMap.{get, len, insert, empty, get-insert, get-empty, len-empty}
+use Rattle.std.proofs.lemmas.Bool.{eqb-true, eq-eqb}
+use Rattle.std.proofs.lemmas.Bool.Decides.{nat_tests}
+use Rattle.std.specs.FinMap.{get, len, insert, remove, empty, get-insert, get-empty, len-empty}
 use Rattle.std.specs.Cmp.{nat_cmp_total}
 use Rattle.std.specs.Ordering.{nat_cmp}
 use Rattle.sb_base.specs.declared.geometry.Geometry.{Geometry}
@@ -10,18 +11,17 @@ use Rattle.sb_base.specs.declared.settings.Settings.{Settings}
 use Rattle.sb_base.specs.SettingsTable.{IsChecked}
 use Rattle.sb_window.specs.declared.last_put.Ending.{Ending}
 use Rattle.sb_window.specs.declared.last_put.LastPut.{LastPut}
-use Rattle.sb_window.specs.LastPuts.{if_kept, kept_puts}
+use Rattle.sb_window.specs.LastPuts.{if_kept, is_end_kept, kept_puts}
 use Rattle.sb_window.specs.Windows.{WindowState, new_window, begun, ended, puts_ended, is_open, expected}
 use Rattle.sb_window.proofs.WindowLemmas.{get_kept, held_stays}
-use Rattle.sb_window.proofs.EventLemmas.{same_key, at_key}
-use Rattle.sb_window.proofs.WaitLemmas.{kept_ended}
-use Rattle.sb_core.specs.declared.state.State.{State}
-use Rattle.sb_core.specs.declared.state.State.TheVariants.{Missing, Reading, Clean, Dirty, Writing, Writing2}
-use Rattle.sb_core.specs.Moves.{state_written, state_put_ended}
-use Rattle.sb_core.specs.States.{only_at, content_in, get_in, put_in, stamp_in}
-use Rattle.sb_core.specs.PutWindow.{IsWindowOf, OpensWith, OwesOnDisk, has_expect}
-use Rattle.sb_core.proofs.Fields.{same}
+use Rattle.sb_window.proofs.EventLemmas.{same_key}
+use Rattle.sb_blocks.specs.declared.cached.Cached.{Cached}
+use Rattle.sb_blocks.specs.Cached.{get_in, get_by, put_in, put_by}
+use Rattle.sb_blocks.specs.Caches.{CachedBlocks, CacheState, with_entry, without, new_cache}
+use Rattle.sb_core.specs.PutWindow.{IsWindowOf, OpensWith}
+use Rattle.sb_core.specs.Fitting.{has_expect, IsCacheOf, ExpectsNone}
 use Rattle.sb_core.proofs.PutLaws.{none_expected}
+use Rattle.sb_core.proofs.Maps.{inserted, removed, len_held, len_fresh, len_gone}
 
 no_open : (held : Option LastPut) → held ≡ None → is_open held ≡ false
 no_open held is = ap is_open is
@@ -41,89 +41,97 @@ new_is_window geometry settings checked = record {
   holds_each = checked.window_holds;
 }
 
-pub new_opens : (settings : Settings) → OpensWith Missing (new_window settings)
-new_opens settings = record { opened = λ on block. no_open (get empty block) (get-empty nat_cmp block) }
-
--- a state without an open PUT, where the window has none open
-pub opens_as : (before after : State) (window : WindowState) → ((block : ℕ) → put_in before block ≡ put_in after block)
-    → OpensWith before window → OpensWith after window
-opens_as before after window alike is =
-    record { opened = λ on block. is.opened on block ∙ ap is_some (alike block) }
-
-pub owes_none : (blocks : ℕ) (state : State) → ((block : ℕ) → stamp_in state block ≡ None) → OwesOnDisk blocks state
-owes_none blocks state none = record {
-  on_disk = λ block some. absurd (no_some (stamp_in state block)
-      (none block) some);
+pub new_opens : (settings : Settings) → OpensWith empty (new_window settings)
+new_opens settings = record {
+  opened = λ on block. no_open (get empty block) (get-empty nat_cmp block)
+      ∙ sym (ap (λ (e : Option Cached). is_some (put_in e)) (get-empty nat_cmp block));
 }
 
-pub owes_as : (blocks : ℕ) (before after : State)
-    → ((block : ℕ) → is_some (stamp_in after block) ≡ true → is_some (stamp_in before block) ≡ true)
-    → OwesOnDisk blocks before → OwesOnDisk blocks after
-owes_as blocks before after alike is = record { on_disk = λ block some. is.on_disk block (alike block some) }
-
-only_some : {X : Type 0} (held block : ℕ) (x : X) → is_some (only_at held x block) ≡ true → held ≡ block
-only_some held block x some = by (nat_eq held block) refl some where
-  by : (t : Bool) → nat_eq held block ≡ t → is_some (if t then Some x else None) ≡ true → held ≡ block
-  by true is some = eqb-true held block is
-  by false is some = absurd (cc)
-
-pub owes_one : (blocks held stamp : ℕ) → held < blocks → OwesOnDisk blocks (Dirty held stamp)
-owes_one blocks held stamp on = record {
-  on_disk = λ block some. let is = only_some held block stamp some in omega (arith, is, on);
+pub new_is_cache : (geometry : Geometry) (settings : Settings) → IsChecked settings (Some geometry.blocks)
+    → IsCacheOf geometry settings (new_cache geometry settings.cache_size)
+new_is_cache geometry settings checked = record {
+  block_size = refl;
+  blocks = refl;
+  room = refl;
+  some = checked.cache_size.0;
+  fits = omega (arith, len-empty nat_cmp Cached);
+  on_disk = λ block some. absurd (no_some (get empty block) (get-empty nat_cmp block) some);
 }
 
-pub dirty_on_disk : (blocks held stamp : ℕ) → OwesOnDisk blocks (Dirty held stamp) → held < blocks
-dirty_on_disk blocks held stamp is =
-    is.on_disk held (ap is_some (ap (λ t. if t then Some stamp else None) (same held)))
+pub new_expects : (settings : Settings) → ExpectsNone settings empty
+new_expects settings off block = ap (λ (e : Option Cached). has_expect (get_in e)) (get-empty nat_cmp block)
 
--- after a write of the block that is held
-pub written_opens : (state : State) (epoch : ℕ) (window : WindowState) → OpensWith state window
-    → OpensWith (state_written state epoch) window
-written_opens Missing epoch window is = is
-written_opens (Reading held pass begun expect) epoch window is = is
-written_opens (Clean held) epoch window is = opens_as (Clean held) (Dirty held epoch) window (λ block. refl) is
-written_opens (Dirty held stamp) epoch window is = is
-written_opens (Writing held pass stamp) epoch window is =
-    opens_as (Writing held pass stamp) (Writing2 held pass stamp epoch) window (λ block. refl) is
-written_opens (Writing2 held pass stamp later) epoch window is = is
+-- the cache after an edit
+pub held_is_cache : (geometry : Geometry) (settings : Settings) (cache : CacheState) (block : ℕ) (before entry : Cached)
+    → get cache.cached block ≡ Some before → IsCacheOf geometry settings cache
+    → IsCacheOf geometry settings (with_entry cache block entry)
+held_is_cache geometry settings cache block before entry found is = record {
+  block_size = is.block_size;
+  blocks = is.blocks;
+  room = is.room;
+  some = is.some;
+  fits = (let same = len_held cache.cached block before entry found in let fits = is.fits in omega (arith, same, fits));
+  on_disk = inserted cache.cached block entry (λ b e. is_some e ≡ true → b < geometry.blocks)
+      (λ _. is.on_disk block (ap is_some found)) (λ b other. is.on_disk b);
+}
 
-pub written_owes : (blocks : ℕ) (state : State) (epoch block : ℕ) (body : List ℕ) → block < blocks
-    → is_some (content_in state body block) ≡ true → OwesOnDisk blocks state
-    → OwesOnDisk blocks (state_written state epoch)
-written_owes blocks Missing epoch block body on held is = is
-written_owes blocks (Reading of pass begun expect) epoch block body on held is = is
-written_owes blocks (Clean of) epoch block body on held is =
-    let here = only_some of block body held in owes_one blocks of epoch (omega (arith, here, on))
-written_owes blocks (Dirty of stamp) epoch block body on held is = is
-written_owes blocks (Writing of pass stamp) epoch block body on held is =
-    owes_as blocks (Writing of pass stamp) (Writing2 of pass stamp epoch) (λ b some. some) is
-written_owes blocks (Writing2 of pass stamp later) epoch block body on held is = is
+pub fresh_is_cache : (geometry : Geometry) (settings : Settings) (cache : CacheState) (block : ℕ) (entry : Cached)
+    → get cache.cached block ≡ None → len cache.cached < cache.room → block < geometry.blocks
+    → IsCacheOf geometry settings cache → IsCacheOf geometry settings (with_entry cache block entry)
+fresh_is_cache geometry settings cache block entry missing free on is = record {
+  block_size = is.block_size;
+  blocks = is.blocks;
+  room = is.room;
+  some = is.some;
+  fits = (let more = len_fresh cache.cached block entry missing in omega (arith, more, free));
+  on_disk = inserted cache.cached block entry (λ b e. is_some e ≡ true → b < geometry.blocks)
+      (λ _. on) (λ b other. is.on_disk b);
+}
 
-pub written_expects : (state : State) (epoch : ℕ) → has_expect state ≡ false
-    → has_expect (state_written state epoch) ≡ false
-written_expects Missing epoch is = is
-written_expects (Reading held pass begun expect) epoch is = is
-written_expects (Clean held) epoch is = refl
-written_expects (Dirty held stamp) epoch is = is
-written_expects (Writing held pass stamp) epoch is = refl
-written_expects (Writing2 held pass stamp later) epoch is = is
+pub gone_is_cache : (geometry : Geometry) (settings : Settings) (cache : CacheState) (block : ℕ)
+    → IsCacheOf geometry settings cache → IsCacheOf geometry settings (without cache block)
+gone_is_cache geometry settings cache block is = record {
+  block_size = is.block_size;
+  blocks = is.blocks;
+  room = is.room;
+  some = is.some;
+  fits = (let less = len_gone cache.cached block in let fits = is.fits in omega (arith, less, fits));
+  on_disk = removed cache.cached block (λ b e. is_some e ≡ true → b < geometry.blocks) (λ some. absurd (cc))
+      (λ b other. is.on_disk b);
+}
 
--- after the begin of a GET
+-- the puts that are open, after an edit that begins and ends none
+pub opens_entry : (m : CachedBlocks) (window : WindowState) (block : ℕ) (entry : Cached)
+    → is_some (put_in (get m block)) ≡ is_some (put_by entry.state) → OpensWith m window
+    → OpensWith (insert m block entry) window
+opens_entry m window block entry same is = record {
+  opened = λ on. inserted m block entry (λ b e. is_open (get window.puts b) ≡ is_some (put_in e))
+      (is.opened on block ∙ same) (λ b other. is.opened on b);
+}
+
+pub opens_gone : (m : CachedBlocks) (window : WindowState) (block : ℕ) → is_some (put_in (get m block)) ≡ false
+    → OpensWith m window → OpensWith (remove m block) window
+opens_gone m window block same is = record {
+  opened = λ on. removed m block (λ b e. is_open (get window.puts b) ≡ is_some (put_in e))
+      (is.opened on block ∙ same) (λ b other. is.opened on b);
+}
+
+pub expects_entry : (settings : Settings) (m : CachedBlocks) (block : ℕ) (entry : Cached)
+    → (settings.md5_size ≡ 0 → has_expect (get_by entry.state) ≡ false) → ExpectsNone settings m
+    → ExpectsNone settings (insert m block entry)
+expects_entry settings m block entry none is off =
+    inserted m block entry (λ b e. has_expect (get_in e) ≡ false) (none off) (λ b other. is off b)
+
+pub expects_gone : (settings : Settings) (m : CachedBlocks) (block : ℕ) → ExpectsNone settings m
+    → ExpectsNone settings (remove m block)
+expects_gone settings m block is off =
+    removed m block (λ b e. has_expect (get_in e) ≡ false) refl (λ b other. is off b)
+
+-- a GET that begins expects nothing without a window
 pub get_expects : (geometry : Geometry) (settings : Settings) (window : WindowState) (block now : ℕ)
     → IsWindowOf geometry settings window → settings.md5_size ≡ 0 → is_some (expected window block now) ≡ false
 get_expects geometry settings window block now is off =
     ap is_some (none_expected window block now is.fits (is.size ∙ off))
-
--- after the end of a GET
-pub read_opens : (state after : State) (window : WindowState) (block : ℕ) → is_some (get_in state block) ≡ true
-    → ((b : ℕ) → put_in after b ≡ None) → OpensWith state window → OpensWith after window
-read_opens (Reading held pass begun expect) after window block some none is =
-    opens_as (Reading held pass begun expect) after window (λ b. sym (none b)) is
-read_opens Missing after window block some none is = absurd (cc)
-read_opens (Clean held) after window block some none is = absurd (cc)
-read_opens (Dirty held stamp) after window block some none is = absurd (cc)
-read_opens (Writing held pass stamp) after window block some none is = absurd (cc)
-read_opens (Writing2 held pass stamp later) after window block some none is = absurd (cc)
 
 -- after the begin of a PUT
 pub begun_is_window :
@@ -167,27 +175,53 @@ begun_is_window geometry settings window block now digest is on fits = record {
       ∙ ap (λ t. cond t (Some (record { digest = digest; ending = None }))
       (get (kept_puts window.md5_time now window.puts) b)) (same_key b block))) ∙ some)
 
--- a block's PUT that begins is open, and no other is
-pub begun_opens : (window : WindowState) (block now pass stamp : ℕ) (digest : List ℕ)
-    → OpensWith (Dirty block stamp) window → OpensWith (Writing block pass stamp) (begun window block now digest)
-begun_opens window block now pass stamp digest is = record { opened = λ on b. by on b (nat_eq window.md5_size 0) refl }
-  where
-    some_either : (t : Bool) (put : LastPut)
-        → is_some (cond t (Some put) None) ≡ is_some (if t then Some pass else None)
-    some_either true put = refl
-    some_either false put = refl
+-- an open put is kept
+kept_open : (time now : ℕ) (held : Option LastPut) → is_open (if_kept time now held) ≡ is_open held
+kept_open time now None = refl
+kept_open time now (Some put) = by put.ending where
+  either : (t : Bool) (ending : Ending) → is_open (if t then Some (record put { ending = Some ending }) else None) ≡ false
+  either true ending = refl
+  either false ending = refl
 
-    by : window.md5_size ≢ 0 → (b : ℕ) (t : Bool) → nat_eq window.md5_size 0 ≡ t
-        → is_open (get (if t then kept_puts window.md5_time now window.puts
-        else insert (kept_puts window.md5_time now window.puts) block (record { digest = digest; ending = None })) b)
-        ≡ is_some (if nat_eq block b then Some pass else None)
-    by on b true off = absurd (on (eqb-true window.md5_size 0 off))
-    by on b false there =
-        at_key (kept_puts window.md5_time now window.puts) block b (record { digest = digest; ending = None }) None
-        (λ x y. is_open x ≡ is_some y) refl
-        (ap is_open (get_kept window.md5_time now b window.puts)
-        ∙ kept_ended window.md5_time now (get window.puts b) (is.opened on b))
-        ∙ some_either (nat_eq block b) (record { digest = digest; ending = None })
+  by : (ending : Option Ending)
+      → is_open (if_kept time now (Some (record put { ending = ending }))) ≡ is_open (Some (record put { ending = ending }))
+  by None = refl
+  by (Some ending) = either (is_end_kept time now (Some ending.reading)) ending
+
+-- a block's PUT that begins is open, and no other changes
+keys : (k b : ℕ) → nat_eq k b ≡ false → eqb k b ≡ false
+keys k b other = grind (arith, nat_tests)
+
+pub begun_opens : (m : CachedBlocks) (window : WindowState) (block now : ℕ) (digest : List ℕ) (entry : Cached)
+    → is_some (put_by entry.state) ≡ true → OpensWith m window
+    → OpensWith (insert m block entry) (begun window block now digest)
+begun_opens m window block now digest entry opened is = record {
+  opened = λ on. inserted m block entry (λ b e. is_open (get (begun window block now digest).puts b) ≡ is_some (put_in e))
+      (here on (nat_eq window.md5_size 0) refl ∙ sym opened) (λ b other. there on b other (nat_eq window.md5_size 0) refl);
+} where
+  here : window.md5_size ≢ 0 → (t : Bool) → nat_eq window.md5_size 0 ≡ t
+      → is_open (get (if t then kept_puts window.md5_time now window.puts
+      else insert (kept_puts window.md5_time now window.puts) block (record { digest = digest; ending = None })) block)
+      ≡ true
+  here on true off = absurd (on (eqb-true window.md5_size 0 off))
+  here on false off =
+      ap is_open (get-insert nat_cmp_total (kept_puts window.md5_time now window.puts) block
+      (record { digest = digest; ending = None }) block
+      ∙ ap (λ t. cond t (Some (record { digest = digest; ending = None }))
+      (get (kept_puts window.md5_time now window.puts) block)) (same_key block block ∙ eq-eqb block block refl))
+
+  there : window.md5_size ≢ 0 → (b : ℕ) → nat_eq block b ≡ false → (t : Bool) → nat_eq window.md5_size 0 ≡ t
+      → is_open (get (if t then kept_puts window.md5_time now window.puts
+      else insert (kept_puts window.md5_time now window.puts) block (record { digest = digest; ending = None })) b)
+      ≡ is_some (put_in (get m b))
+  there on b other true off = absurd (on (eqb-true window.md5_size 0 off))
+  there on b other false off =
+      ap is_open (get-insert nat_cmp_total (kept_puts window.md5_time now window.puts) block
+      (record { digest = digest; ending = None }) b
+      ∙ ap (λ t. cond t (Some (record { digest = digest; ending = None }))
+      (get (kept_puts window.md5_time now window.puts) b)) (same_key b block ∙ keys block b other))
+      ∙ ap is_open (get_kept window.md5_time now b window.puts)
+      ∙ kept_open window.md5_time now (get window.puts b) ∙ is.opened on b
 
 -- after the end of a PUT
 pub ended_is_window : (geometry : Geometry) (settings : Settings) (window : WindowState) (block now : ℕ) (ok : Bool)
@@ -225,78 +259,34 @@ ended_is_window geometry settings window block now ok is = record {
       (sym (ap is_some (get-insert nat_cmp_total window.puts block put b
       ∙ ap (λ t. cond t (Some put) (get window.puts b)) (same_key b block))) ∙ some)
 
-put_none : (state : State) (ok : Bool) (b : ℕ) → put_in (state_put_ended state ok) b ≡ None
-put_none Missing ok b = refl
-put_none (Reading held pass begun expect) ok b = refl
-put_none (Clean held) ok b = refl
-put_none (Dirty held stamp) ok b = refl
-put_none (Writing held pass stamp) true b = refl
-put_none (Writing held pass stamp) false b = refl
-put_none (Writing2 held pass stamp later) true b = refl
-put_none (Writing2 held pass stamp later) false b = refl
-
--- the one PUT that is open is that of the block that is held
-put_other : (state : State) (block b : ℕ) → is_some (put_in state block) ≡ true → eqb block b ≡ false
-    → is_some (put_in state b) ≡ false
-put_other Missing block b some other = refl
-put_other (Reading held pass begun expect) block b some other = refl
-put_other (Clean held) block b some other = refl
-put_other (Dirty held stamp) block b some other = refl
-put_other (Writing held pass stamp) block b some other =
-    let is = only_some held block pass some in rw (is, other) refl
-put_other (Writing2 held pass stamp later) block b some other =
-    let is = only_some held block pass some in rw (is, other) refl
-
-pub ended_opens : (window : WindowState) (state : State) (block now : ℕ) (ok : Bool)
-    → is_some (put_in state block) ≡ true → OpensWith state window
-    → OpensWith (state_put_ended state ok) (ended window block now ok)
-ended_opens window state block now ok some is = record {
-  opened = λ on b. by on b (get window.puts block) refl ∙ sym (ap is_some (put_none state ok b));
+-- a block's PUT that ends is not open, and no other changes
+pub ended_opens : (m : CachedBlocks) (window : WindowState) (block now : ℕ) (ok : Bool) (entry : Cached)
+    → is_some (put_in (get m block)) ≡ true → is_some (put_by entry.state) ≡ false → OpensWith m window
+    → OpensWith (insert m block entry) (ended window block now ok)
+ended_opens m window block now ok entry opened closed is = record {
+  opened = λ on. inserted m block entry
+      (λ b e. is_open (get (puts_ended window.puts block (record { reading = now; ok = ok }) (get window.puts block)) b)
+      ≡ is_some (put_in e))
+      (here on (get window.puts block) refl ∙ sym closed) (λ b other. there on b other (get window.puts block) refl);
 } where
   not_open : (held : Option LastPut) → held ≡ None → is_open held ≡ true → ⊥
   not_open held none opened = cc
 
-  set_closed : window.md5_size ≢ 0 → (b : ℕ) (put : LastPut) (ending : Ending) → put.ending ≡ Some ending → (t : Bool)
-      → eqb block b ≡ t → is_open (cond t (Some put) (get window.puts b)) ≡ false
-  set_closed on b put ending ends true at = rw ends refl
-  set_closed on b put ending ends false other = is.opened on b ∙ put_other state block b some other
+  here : window.md5_size ≢ 0 → (held : Option LastPut) → get window.puts block ≡ held
+      → is_open (get (puts_ended window.puts block (record { reading = now; ok = ok }) held) block) ≡ false
+  here on None at = absurd (not_open (get window.puts block) at (is.opened on block ∙ opened))
+  here on (Some old) at =
+      let put : LastPut = record { digest = old.digest; ending = Some (record { reading = now; ok = ok }) } in
+      ap is_open (get-insert nat_cmp_total window.puts block put block
+      ∙ ap (λ t. cond t (Some put) (get window.puts block)) (same_key block block ∙ eq-eqb block block refl))
 
-  by : window.md5_size ≢ 0 → (b : ℕ) (held : Option LastPut) → get window.puts block ≡ held
-      → is_open (get (puts_ended window.puts block (record { reading = now; ok = ok }) held) b) ≡ false
-  by on b None here = absurd (not_open (get window.puts block) here (is.opened on block ∙ some))
-  by on b (Some old) here =
+  there : window.md5_size ≢ 0 → (b : ℕ) → nat_eq block b ≡ false → (held : Option LastPut)
+      → get window.puts block ≡ held
+      → is_open (get (puts_ended window.puts block (record { reading = now; ok = ok }) held) b)
+      ≡ is_some (put_in (get m b))
+  there on b other None at = is.opened on b
+  there on b other (Some old) at =
       let put : LastPut = record { digest = old.digest; ending = Some (record { reading = now; ok = ok }) } in
       ap is_open (get-insert nat_cmp_total window.puts block put b
-      ∙ ap (λ t. cond t (Some put) (get window.puts b)) (same_key b block))
-      ∙ set_closed on b put (record { reading = now; ok = ok }) refl _ refl
-
-pub ended_owes : (blocks : ℕ) (state : State) (ok : Bool) → OwesOnDisk blocks state
-    → OwesOnDisk blocks (state_put_ended state ok)
-ended_owes blocks Missing ok is = is
-ended_owes blocks (Reading held pass begun expect) ok is = is
-ended_owes blocks (Clean held) ok is = is
-ended_owes blocks (Dirty held stamp) ok is = is
-ended_owes blocks (Writing held pass stamp) true is = owes_none blocks (Clean held) (λ b. refl)
-ended_owes blocks (Writing held pass stamp) false is =
-    owes_as blocks (Writing held pass stamp) (Dirty held stamp) (λ b some. some) is
-ended_owes blocks (Writing2 held pass stamp later) true is =
-    owes_as blocks (Writing2 held pass stamp later) (Dirty held later) (λ b some. later_some b some) is where
-      later_some : (b : ℕ) → is_some (only_at held later b) ≡ true → is_some (only_at held stamp b) ≡ true
-      later_some b some = by (nat_eq held b) some where
-        by : (t : Bool) → is_some (if t then Some later else None) ≡ true
-            → is_some (if t then Some stamp else None) ≡ true
-        by true some = refl
-        by false some = some
-ended_owes blocks (Writing2 held pass stamp later) false is =
-    owes_as blocks (Writing2 held pass stamp later) (Dirty held stamp) (λ b some. some) is
-
-pub ended_expects : (state : State) (ok : Bool) → has_expect state ≡ false
-    → has_expect (state_put_ended state ok) ≡ false
-ended_expects Missing ok is = is
-ended_expects (Reading held pass begun expect) ok is = is
-ended_expects (Clean held) ok is = is
-ended_expects (Dirty held stamp) ok is = is
-ended_expects (Writing held pass stamp) true is = refl
-ended_expects (Writing held pass stamp) false is = refl
-ended_expects (Writing2 held pass stamp later) true is = refl
-ended_expects (Writing2 held pass stamp later) false is = refl
+      ∙ ap (λ t. cond t (Some put) (get window.puts b)) (same_key b block ∙ keys block b other))
+      ∙ is.opened on b

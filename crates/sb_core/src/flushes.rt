@@ -1,18 +1,24 @@
 //! Flushes.
 
 ghost use Rattle.std.specs.Prelude.{◌≡◌, ◌≤◌, ◌^◌, length};
+ghost use Rattle.sb_core.specs.Rules.{Owes};
 
 use crate::job::Mark;
 use crate::machine::Core;
-use crate::state::State;
 use crate::step::FlushStep;
 use sb_base::Why;
 
 impl Core {
-    ghost use Rattle.sb_core.specs.Represents.{geometry_of, window_of, reading_of, reading_at, epoch_of};
-    ghost use Rattle.sb_core.specs.Represents.{Adds, AddsAfterFlush};
-    ghost use Rattle.sb_core.specs.Steps.{flush_begin_entry, AnswersFlush, CopiesFlush, flush_step_entry};
-    ghost use Rattle.sb_core.specs.Progress.{IsIdle, FlushLeads, KeepsOpen, SameBase};
+    ghost use Rattle.sb_core.specs.Cores.{geometry_of, window_of, reading_of, reading_at, epoch_of, Adds, AddsAfterFlush};
+    ghost use Rattle.sb_core.specs.Leads.{IsIdle, KeepsOpen, FlushLeads};
+    ghost use Rattle.sb_core.specs.Requests.{SameBase, FlushOpens};
+    ghost use Rattle.sb_core.specs.Flushing.{
+      AnswersFlush,
+      CopiesFlush,
+      flush_begin_entry,
+      flush_step_entry,
+      Rises,
+    };
 
     /// Begins a flush. Its mark covers all writes so far; the last mark, 2^64 - 1, covers later ones too.
     pub fn flush_begin(&mut self, now: u64, pass: u64) -> Mark
@@ -25,7 +31,14 @@ impl Core {
         ensures base { SameBase self.old self.new }
         ensures reading { reading_of self.new ≡ reading_at now self.old }
     {
-        self.reading = now.max(self.reading);
+        let _place = self.tick(now);
+        self.next_mark()
+    }
+
+    /// Gives a mark.
+    fn next_mark(&mut self) -> Mark
+        ensures { Rises self.old self.new result }
+    {
         let mark = self.epoch;
         self.epoch = mark.saturating_add(1);
         mark
@@ -40,38 +53,42 @@ impl Core {
             (flush_step_entry pass (reading_at now self.old) mark out.new result) }
         ensures answer { AnswersFlush self.old (reading_at now self.old) mark result }
         ensures copies { CopiesFlush self.old out.new result }
-        ensures leads { FlushLeads self.old self.new pass result }
+        ensures opens { FlushOpens self.new pass result }
+        ensures leads { FlushLeads self.old self.new pass mark out.new result }
         ensures open { KeepsOpen self.old self.new }
         ensures base { SameBase self.old self.new }
         ensures reading { reading_of self.new ≡ reading_at now self.old }
     {
-        self.reading = now.max(self.reading);
-        match self.state {
-            State::Missing | State::Reading { .. } | State::Clean { .. } => FlushStep::Done,
-            State::Dirty { block, stamp } => {
-                if stamp <= mark {
-                    match self.begin_put(pass, block, stamp, out) {
-                        Ok(job) => FlushStep::Put(job),
-                        Err(why) => FlushStep::Wait(why),
+        let _place = self.tick(now);
+        match self.put_next(pass, Some(mark), out) {
+            Ok(job) => FlushStep::Put(job),
+            Err(Why::Busy(block)) => FlushStep::Wait(Why::Busy(block)),
+            Err(Why::Spaced(until)) => FlushStep::Wait(Why::Spaced(until)),
+            Err(Why::WindowFull(until)) => FlushStep::Wait(Why::WindowFull(until)),
+            Err(Why::NoRoom) => match self.blocks.lowest_writing(mark) {
+                Some(block) => FlushStep::Wait(Why::Busy(block)),
+                None => {
+                    if self.owes(mark) {
+                        FlushStep::Wait(Why::NoRoom)
+                    } else {
+                        FlushStep::Done
                     }
-                } else {
-                    FlushStep::Done
                 }
-            }
-            State::Writing { block, stamp, .. } => {
-                if stamp <= mark {
-                    FlushStep::Wait(Why::Busy(block))
-                } else {
-                    FlushStep::Done
-                }
-            }
-            State::Writing2 { block, stamp, .. } => {
-                if stamp <= mark {
-                    FlushStep::Wait(Why::Busy(block))
-                } else {
-                    FlushStep::Done
-                }
-            }
+            },
         }
+    }
+
+    /// Whether a flush of this mark covers a dirty block.
+    fn owes(&self, mark: u64) -> bool
+        ensures { Owes mark self.now.blocks.cached result }
+    {
+        let mut after: Option<(u64, u32)> = None;
+        'dirty: while let Some(next) = self.blocks.next_dirty(after) {
+            if self.covers(Some(mark), next.1) {
+                return true;
+            }
+            after = Some(next);
+        }
+        false
     }
 }

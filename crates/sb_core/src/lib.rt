@@ -3,15 +3,15 @@
 
 mod flushes;
 mod job;
+mod laws;
 mod machine;
+mod puts;
 mod reads;
 mod room;
-mod state;
 mod step;
-#[cfg(test)]
-mod tests;
 mod writes;
 
 pub use job::{GetJob, Mark, PutJob};
+pub use laws::get_undone;
 pub use machine::Core;
 pub use step::{FlushStep, GetDone, ReadStep, WriteStep};

@@ -1,36 +1,27 @@
-//! Reads, and the answers to GETs.
+//! Reads.
 
-ghost use Rattle.std.specs.Prelude.{◌≡◌, ◌≢◌, ◌≤◌, ◌^◌, length, None, Some, is_some, true};
+ghost use Rattle.std.specs.Prelude.{◌≡◌, ◌≢◌, ◌<◌, ◌≤◌, ◌^◌, length, is_none, is_some, true, None, Some};
+ghost use Rattle.std.specs.FinMap.{get};
 ghost use Rattle.sb_base.specs.Lines.{shown_of};
-ghost use Rattle.sb_base.specs.Ranges.{IsPart};
 ghost use Rattle.sb_history.specs.Cache.{answer_content};
 ghost use Rattle.sb_history.specs.Window.{answer_digest};
-ghost use Rattle.sb_core.specs.Steps.{judged};
+ghost use Rattle.sb_blocks.specs.Cached.{passes, is_held, get_in};
+ghost use Rattle.sb_blocks.specs.Moves.{ShowsContent};
+ghost use Rattle.sb_core.specs.Judging.{judged, IsStaleByWindow};
+ghost use Rattle.sb_base.specs.Ranges.{IsPart};
 
 use crate::job::GetJob;
 use crate::machine::{Core, digest_if};
 use crate::room::Room;
-use crate::state::State;
 use crate::step::{GetDone, ReadStep};
-use sb_base::{Answer, Digest, Expect, Part};
+use sb_base::{Answer, Digest, Expect, Part, Why};
+use sb_blocks::Look;
 
 impl Core {
-    ghost use Rattle.sb_core.specs.States.{get_in};
-    ghost use Rattle.sb_core.specs.Represents.{geometry_of, settings_of, window_of, reading_of, reading_at, Adds};
-    ghost use Rattle.sb_core.specs.Steps.{
-      AnswersRead,
-      CopiesRead,
-      read_entry,
-      HasGet,
-      ShownFits,
-      get_end_answer,
-      get_end_entry,
-      IsStaleByWindow,
-      ShowsContent,
-    };
-    ghost use Rattle.sb_core.specs.declared.state.State.TheVariants.{Clean};
-    ghost use Rattle.sb_core.specs.Changes.{TakesContent};
-    ghost use Rattle.sb_core.specs.Progress.{IsIdle, IsCloser, ReadLeads, KeepsOpen, LeavesNothing, SameBase};
+    ghost use Rattle.sb_core.specs.Cores.{geometry_of, settings_of, window_of, reading_of, reading_at, Adds, ReadsHeld, TakesAnswer};
+    ghost use Rattle.sb_core.specs.Leads.{IsIdle, IsIdleBut, KeepsOpen, KeepsOthers, ReadLeads, LeavesNothing, steps_left};
+    ghost use Rattle.sb_core.specs.Requests.{SameBase, ReadOpens};
+    ghost use Rattle.sb_core.specs.Steps.{AnswersRead, CopiesRead, read_entry, HasGet, ShownFits, get_end_answer, get_end_entry};
 
     /// Reads a part of a block into `out`, which is as long as the part. `room` is one block long, and has the body
     /// where the answer is a PUT. `now` is a reading in milliseconds.
@@ -50,18 +41,24 @@ impl Core {
             (read_entry pass (reading_at now self.old) part out.new room.new result) }
         ensures answer { AnswersRead self.old (reading_at now self.old) part.block result }
         ensures copies { CopiesRead self.old part out.new room.new result }
-        ensures leads { ReadLeads self.old self.new pass part.block result }
+        ensures opens { ReadOpens self.new pass result }
+        ensures leads { ReadLeads self.old self.new pass part.block room.new result }
         ensures open { KeepsOpen self.old self.new }
         ensures base { SameBase self.old self.new }
         ensures reading { reading_of self.new ≡ reading_at now self.old }
     {
-        self.reading = now.max(self.reading);
+        let place = self.tick(now);
         if self.holds(part.block) {
-            self.copy(part, out);
+            self.read_held(place, part, out);
             return ReadStep::Done;
         }
-        match self.make_room(pass, part.block, room) {
-            Room::Free => ReadStep::Get(self.begin_get(pass, part.block)),
+        if !self.is_missing(part.block) {
+            return ReadStep::Wait(Why::Busy(part.block));
+        }
+        if self.blocks.free() != 0 {
+            return ReadStep::Get(self.begin_get(pass, part.block));
+        }
+        match self.make_room(pass, room) {
             Room::Dropped(block) => ReadStep::Dropped(block),
             Room::Put(job) => ReadStep::Put(job),
             Room::Wait(why) => ReadStep::Wait(why),
@@ -78,11 +75,12 @@ impl Core {
             (get_end_entry pass (reading_at now self.old) job (shown_of answer.entry) result) }
         ensures answer { result ≡ get_end_answer (geometry_of self.old).block_size job (shown_of answer.entry) }
         ensures stale { IsStaleByWindow (settings_of self.old) result }
-        ensures idle { IsIdle self.new }
-        ensures nothing { LeavesNothing self.new result }
-        ensures closer { result ≡ GetDone.Taken → IsCloser self.old self.new }
-        ensures base { SameBase self.old self.new }
+        ensures idle { IsIdleBut job.block self.old → IsIdle self.new }
+        ensures nothing { LeavesNothing self.old self.new job.block result }
+        ensures closer { result ≡ GetDone.Taken → steps_left self.new job.block < steps_left self.old job.block }
+        ensures others { KeepsOthers job.block self.old self.new }
         ensures window { window_of self.new ≡ window_of self.old }
+        ensures base { SameBase self.old self.new }
         ensures reading { reading_of self.new ≡ reading_at now self.old }
     {
         let GetJob {
@@ -91,17 +89,21 @@ impl Core {
             verify: _,
             begun: _,
         } = job;
-        self.reading = now.max(self.reading);
-        match self.judge(expect, &answer) {
-            GetDone::Taken => {
-                self.take(block, answer);
-                GetDone::Taken
-            }
-            refused => {
-                self.state = State::Missing;
-                refused
-            }
-        }
+        let place = self.tick(now);
+        let outcome = self.judge(expect, &answer);
+        self.take(place, block, answer, outcome.is_taken());
+        outcome
+    }
+
+    /// Holds the content that an answer shows, if it is taken, and else gives the entry of the block up.
+    fn take(&mut self, place: u64, block: u32, answer: Answer<'_>, taken: bool)
+        requires open { is_some (get_in (get self.old.blocks.cached block)) ≡ true }
+        requires content { taken ≡ true → ShowsContent self.old.geometry.block_size (shown_of answer) }
+        ensures { TakesAnswer self.old self.new place block
+            (answer_content self.old.geometry.block_size None (shown_of answer.entry)) taken }
+    {
+        self.blocks
+            .end_read(self.reading, place, block, answer, taken);
     }
 
     /// What becomes of the answer to a GET that has to show this digest. An MD5 is computed only where there is one.
@@ -116,18 +118,42 @@ impl Core {
         }
     }
 
-    /// Holds the content that an answer shows.
-    fn take(&mut self, block: u32, answer: Answer<'_>)
-        requires open { is_some (get_in self.old.state block) ≡ true }
-        requires content { ShowsContent self.old.geometry.block_size (shown_of answer) }
-        ensures { TakesContent self.old self.new block
-            (answer_content self.old.geometry.block_size None (shown_of answer.entry)) }
+    /// Reads a part of a block that is held.
+    fn read_held(&mut self, place: u64, part: Part, out: &mut [u8])
+        requires part { IsPart self.old.geometry part }
+        requires held { passes is_held (get self.old.blocks.cached part.block) ≡ true }
+        requires out { length out.old ≡ part.length }
+        ensures { ReadsHeld self.old self.new place part out.new }
     {
-        self.state = State::Clean { block };
-        match answer {
-            Answer::Absent => self.body.fill(0),
-            Answer::Bytes(bytes) => self.body.copy_from_slice(bytes),
-            Answer::Same | Answer::Failed => unreachable!(),
+        self.blocks.copy(part, out);
+        self.blocks.touch(self.reading, place, part.block);
+    }
+
+    /// Whether the content of a block is held.
+    pub(crate) fn holds(&self, block: u32) -> bool
+        ensures { result ≡ passes is_held (get self.now.blocks.cached block) }
+    {
+        match self.blocks.look(block) {
+            Look::Missing => false,
+            Look::Reading => false,
+            Look::Clean => true,
+            Look::Dirty => true,
+            Look::Writing => true,
+            Look::Writing2 => true,
+        }
+    }
+
+    /// Whether a block has no entry.
+    pub(crate) fn is_missing(&self, block: u32) -> bool
+        ensures { result ≡ is_none (get self.now.blocks.cached block) }
+    {
+        match self.blocks.look(block) {
+            Look::Missing => true,
+            Look::Reading => false,
+            Look::Clean => false,
+            Look::Dirty => false,
+            Look::Writing => false,
+            Look::Writing2 => false,
         }
     }
 }

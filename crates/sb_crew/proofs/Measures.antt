@@ -1,34 +1,23 @@
 -- How far a call still has to go, behind a GET.
-use Rattle.std.proofs.Common.{ℕ, ◌≡◌, ◌<◌, ◌≤◌, ◌+◌, ◌-◌, ◌*◌, ◌^◌, inl, inr, Bool, true, false, if◌then◌else◌}
-use Rattle.std.proofs.Common.{nat_eq, Some, ap, arith}
+use Rattle.std.proofs.Common.{ℕ, ◌≡◌, ◌<◌, ◌≤◌, ◌+◌, ◌-◌, ◌*◌, ◌^◌, inl, inr, true, ap, subst, ◌∙◌, arith}
+use Rattle.std.specs.FinMap.{get}
+use Rattle.sb_blocks.specs.Caches.{CacheState}
 use Rattle.sb_core.specs.declared.machine.Core.{Core}
-use Rattle.sb_core.specs.declared.state.State.{State}
-use Rattle.sb_core.specs.declared.state.State.TheVariants.{Missing, Reading, Clean, Dirty, Writing, Writing2}
-use Rattle.sb_core.specs.States.{OpenGet, get_in}
-use Rattle.sb_core.specs.Progress.{steps_left, steps_left_in}
+use Rattle.sb_core.specs.declared.job.GetJob.{GetJob}
+use Rattle.sb_core.specs.Leads.{steps_left, IsIdle, is_idle_in, LeadsToGet, get_undone}
 use Rattle.sb_crew.specs.Turns.{GoesOn}
 
-one_of_both : (t : Bool) → 1 ≤ (if t then 1 else 1 + 3)
-one_of_both true = omega (arith)
-one_of_both false = omega (arith)
-
--- where a GET is open a step is left at least
-one_is_left : (state : State) (asked block : ℕ) (get : OpenGet) → get_in state asked ≡ Some get
-    → 1 ≤ steps_left_in state block
-one_is_left Missing asked block get is_open = absurd (cc)
-one_is_left (Reading held pass begun expect) asked block get is_open = one_of_both (nat_eq held block)
-one_is_left (Clean held) asked block get is_open = absurd (cc)
-one_is_left (Dirty held stamp) asked block get is_open = absurd (cc)
-one_is_left (Writing held pass stamp) asked block get is_open = absurd (cc)
-one_is_left (Writing2 held pass stamp later) asked block get is_open = absurd (cc)
+-- a core whose cache stays is idle as before
+pub idle_stays : (old new : Core) → new.blocks ≡ old.blocks → IsIdle old → IsIdle new
+idle_stays old new same idle block = ap (λ (cache : CacheState). is_idle_in (get cache.cached block)) same ∙ idle block
 
 -- behind a GET a call has less to go than before it began
-pub less_behind_get : (old mid new : Core) (asked block now next latest : ℕ) (get : OpenGet)
-    → get_in mid.state asked ≡ Some get → steps_left mid block < steps_left old block → GoesOn mid new latest next
-    → latest ≡ now → next ≤ 2 ^ 62
+pub less_behind_get : (old mid new : Core) (block now next latest : ℕ) (job : GetJob)
+    → LeadsToGet old mid 1 block job → GoesOn mid new job.block latest next → latest ≡ now → next ≤ 2 ^ 62
     → steps_left new block * (2 ^ 62 + 1) + (2 ^ 62 - next) < steps_left old block * (2 ^ 62 + 1) + (2 ^ 62 - now)
-less_behind_get old mid new asked block now next latest get is_open first (inl closer) is limit =
-    omega (arith, first, closer block)
-less_behind_get old mid new asked block now next latest get is_open first (inr still) is limit =
-    let two : steps_left new block ≡ 2 = ap (λ (s : State). steps_left_in s block) still.0 in
-    omega (arith, two, one_is_left mid.state asked block get is_open, first, still.1, is, limit)
+less_behind_get old mid new block now next latest job leads goes is limit =
+    by (subst (λ (b : ℕ). GoesOn mid new b latest next) leads.same_block goes) where
+      by : GoesOn mid new block latest next
+          → steps_left new block * (2 ^ 62 + 1) + (2 ^ 62 - next) < steps_left old block * (2 ^ 62 + 1) + (2 ^ 62 - now)
+      by (inl closer) = omega (arith, leads.closer, closer)
+      by (inr still) = omega (arith, get_undone old mid new 1 block job leads still.0 block, still.1, is, limit)

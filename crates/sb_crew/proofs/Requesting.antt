@@ -28,9 +28,11 @@ use Rattle.sb_core.specs.declared.machine.Core.{Core}
 use Rattle.sb_core.specs.declared.job.GetJob.{GetJob}
 use Rattle.sb_core.specs.declared.step.GetDone.{GetDone}
 use Rattle.sb_core.specs.declared.step.GetDone.TheVariants as done
-use Rattle.sb_core.specs.States.{OpenGet}
-use Rattle.sb_core.specs.Represents.{open_get, geometry_of, settings_of}
-use Rattle.sb_core.specs.Steps.{HasGet, judged, is_taken, get_end_entry}
+use Rattle.sb_blocks.specs.declared.cached.OpenGet.{OpenGet}
+use Rattle.sb_core.specs.Represents.{open_get}
+use Rattle.sb_core.specs.Cores.{geometry_of, settings_of}
+use Rattle.sb_core.specs.Steps.{HasGet, get_end_entry}
+use Rattle.sb_core.specs.Judging.{judged, is_taken}
 use Rattle.sb_crew.specs.Scenes.{disk_at, scene_at, deed_of}
 use Rattle.sb_crew.specs.declared.calls.CallFault.{CallFault}
 use Rattle.sb_crew.specs.declared.calls.FlushFault.{FlushFault}
@@ -243,7 +245,7 @@ module _ {names names' : Naming} {core core' : Core} {tape tape' : Option (List 
           event = event;
           pause = pause;
           pauses = λ past is stands.
-              pauses_so (settings_of core).stale_limit job _ _ pause (stands.gets job.block ∙ opened) pauses;
+              pauses_so (settings_of core).stale_limit job _ _ pause ((stands.blocks job.block).asks ∙ opened) pauses;
           paused = paused;
           readings = readings;
         };
@@ -293,7 +295,7 @@ module _ {names names' : Naming} {core core' : Core} {tape tape' : Option (List 
       event = event;
       pause = None;
       pauses = λ past held stands.
-          pauses_so (settings_of core).stale_limit job _ _ None (stands.gets job.block ∙ opened)
+          pauses_so (settings_of core).stale_limit job _ _ None ((stands.blocks job.block).asks ∙ opened)
           (failure_agrees (settings_of core).stale_limit job.begun (geometry_of core).block_size job.expect job.verify);
       paused = refl;
       readings = gains_nothing clock';
@@ -334,7 +336,7 @@ module _ {names names' : Naming} {core core' : Core} {tape tape' : Option (List 
           event = event;
           pause = None;
           pauses = λ past held stands.
-              pauses_so (settings_of core).stale_limit job _ _ None (stands.gets job.block ∙ opened)
+              pauses_so (settings_of core).stale_limit job _ _ None ((stands.blocks job.block).asks ∙ opened)
               (late_is_over (settings_of core).stale_limit job.begun job.expect _ late);
           paused = refl;
           readings = gains_nothing clock';

@@ -30,8 +30,8 @@ use Rattle.sb_history.specs.Flushes.{flush_place, flush_place_after}
 use Rattle.sb_history.specs.Requests.{Replies, RequestLog, IsPutCall, meta_of, put_call}
 use Rattle.sb_core.specs.declared.machine.Core.{Core}
 use Rattle.sb_core.specs.declared.job.GetJob.{GetJob}
-use Rattle.sb_core.specs.Represents.{geometry_of, settings_of}
-use Rattle.sb_core.specs.Progress.{SameBase}
+use Rattle.sb_core.specs.Cores.{geometry_of, settings_of}
+use Rattle.sb_core.specs.Requests.{SameBase}
 use Rattle.sb_crew.specs.Scenes.{deed_of, disk_at, scene_at, nothing, Deed}
 use Rattle.sb_crew.specs.Bases.{Base, base_of}
 use Rattle.sb_crew.specs.declared.calls.CallFault.{CallFault}

@@ -12,7 +12,7 @@ use Rattle.sb_history.specs.Passes.{IsOfPass}
 use Rattle.sb_history.specs.Requests.{RequestLog}
 use Rattle.sb_history.specs.ClockTrace.{ClockTrace, PausesAfter}
 use Rattle.sb_laws.proofs.Joins.{requests_join, clock_traces_join, entry_is_ticked}
-use Rattle.sb_core.specs.Represents.{Represents, geometry_of, settings_of}
+use Rattle.sb_core.specs.Cores.{Represents, geometry_of, settings_of}
 use Rattle.sb_crew.specs.Scenes.{DiskScene, Scene, Deed, nothing, followed}
 use Rattle.sb_crew.specs.Names.{Naming, name_of}
 use Rattle.sb_crew.specs.Outcomes.{fault_of}

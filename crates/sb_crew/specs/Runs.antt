@@ -11,8 +11,8 @@ use Rattle.sb_history.specs.Flushes.{flush_place}
 use Rattle.sb_history.specs.Passes.{IsOfPass}
 use Rattle.sb_history.specs.Requests.{RequestLog}
 use Rattle.sb_history.specs.ClockTrace.{Caller, ClockTrace, PausesAfter, PauseTicks}
-use Rattle.sb_core.specs.Represents.{Represents, geometry_of, settings_of, reading_of}
-use Rattle.sb_core.specs.Progress.{SameBase}
+use Rattle.sb_core.specs.Cores.{Represents, geometry_of, settings_of, reading_of}
+use Rattle.sb_core.specs.Requests.{SameBase}
 use Rattle.sb_crew.specs.Names.{name_of}
 use Rattle.sb_crew.specs.Scenes.{DiskScene, Scene, Deed}
 use Rattle.sb_crew.specs.Counts.{Asked}

@@ -17,7 +17,7 @@ use Rattle.sb_history.specs.ClockTrace.{wait_pause}
 use Rattle.sb_history.specs.Requests.{meta_of, put_call}
 use Rattle.sb_core.specs.declared.machine.Core.{Core}
 use Rattle.sb_core.specs.declared.job.GetJob.{GetJob}
-use Rattle.sb_core.specs.Progress.{IsCloser, HoldsNothing}
+use Rattle.sb_core.specs.Leads.{steps_left, LeavesMissing}
 use Rattle.sb_crew.specs.Scenes.{Scene, Deed, deed_of}
 use Rattle.sb_crew.specs.Bases.{Base, base_of}
 use Rattle.sb_crew.specs.Names.{Naming, name_of}
@@ -92,9 +92,10 @@ pub record Waits (clock clock' : Option (List Tick)) (latest latest' now : ℕ) 
   pub pause_is : wait_pause why now ≡ Some millis
   pub paused : Pauses clock clock' latest latest' now millis result
 
--- each block is closer, or nothing is held or asked for and time went on
-abbrev pub GoesOn : Core → Core → ℕ → ℕ → Type 0
-GoesOn old new before next = IsCloser old new ⊎ (HoldsNothing new × (before < next))
+-- a block is closer, or its GET was given up, and time went on
+abbrev pub GoesOn : Core → Core → ℕ → ℕ → ℕ → Type 0
+GoesOn old new block before next =
+    (steps_left new block < steps_left old block) ⊎ (LeavesMissing old new block × (before < next))
 
 -- the entries of a GET
 abbrev pub get_begun : GetJob → Entry

@@ -26,8 +26,8 @@ pub struct Alone<T> {
 
 impl<T: Tape> Alone<T> {
     ghost use Rattle.sb_world.specs.Told.{Gains};
-    ghost use Rattle.sb_core.specs.Represents.{geometry_of, reading_of};
-    ghost use Rattle.sb_core.specs.Progress.{IsIdle};
+    ghost use Rattle.sb_core.specs.Cores.{geometry_of, reading_of};
+    ghost use Rattle.sb_core.specs.Leads.{IsIdle};
     ghost use Rattle.sb_crew.specs.Disks.{core_of, names_of, tape_of};
     ghost use Rattle.sb_crew.specs.Ready.{IsReady};
 

@@ -2,8 +2,7 @@
 
 ghost use Rattle.std.specs.Prelude.{◌≡◌, ◌≤◌, ◌^◌, length, vec_len};
 ghost use Rattle.sb_base.specs.Lines.{entry_kind_of};
-ghost use Rattle.sb_core.specs.Steps.{flush_kind};
-
+ghost use Rattle.sb_core.specs.Flushing.{flush_kind};
 use crate::alone::{Alone, PASS};
 use crate::calls::FlushFault;
 use crate::desk::Desk;
@@ -24,9 +23,9 @@ fn flush_kind<'a>(step: &FlushStep, mark: Mark, room: &'a [u8]) -> Kind<'a>
 }
 
 impl<T: Tape> Alone<T> {
-    ghost use Rattle.sb_core.specs.Represents.{geometry_of, reading_of};
-    ghost use Rattle.sb_core.specs.Progress.{FlushLeads, IsIdle};
-    ghost use Rattle.sb_core.specs.Steps.{AnswersFlush, CopiesFlush, flush_begin_entry, flush_step_entry};
+    ghost use Rattle.sb_core.specs.Cores.{geometry_of, reading_of};
+    ghost use Rattle.sb_core.specs.Leads.{FlushLeads, IsIdle};
+    ghost use Rattle.sb_core.specs.Flushing.{AnswersFlush, CopiesFlush, flush_begin_entry, flush_step_entry};
     ghost use Rattle.sb_crew.specs.Bases.{base_of};
     ghost use Rattle.sb_crew.specs.Outcomes.{FlushDoes};
     ghost use Rattle.sb_crew.specs.Ready.{IsReady};
@@ -54,7 +53,7 @@ impl<T: Tape> Alone<T> {
             (flush_step_entry 1 self.new.reading mark room.new result) }
         ensures answer { AnswersFlush self.old.core self.new.reading mark result }
         ensures copies { CopiesFlush self.old.core room.new result }
-        ensures leads { FlushLeads self.old.core self.new.core 1 result }
+        ensures leads { FlushLeads self.old.core self.new.core 1 mark room.new result }
         ensures current { self.new.reading ≡ reading_of self.new.core }
     {
         let step = self.core.flush_step(now, PASS, mark, room);

@@ -1,7 +1,7 @@
 //! Pauses of a call.
 
 ghost use Rattle.std.specs.Prelude.{◌≡◌, ◌+◌, ◌≤◌, ◌<◌, ◌^◌, ℕ};
-ghost use Rattle.sb_core.specs.Progress.{IsUntil};
+ghost use Rattle.sb_core.specs.Leads.{IsUntil};
 ghost use Rattle.sb_crew.specs.Turns.{Pauses, Waits};
 
 use crate::calls::FlushFault;

@@ -27,8 +27,8 @@ fn read_kind<'a>(step: &ReadStep, part: Part, out: &'a [u8], room: &'a [u8]) -> 
 }
 
 impl<T: Tape> Alone<T> {
-    ghost use Rattle.sb_core.specs.Represents.{geometry_of, reading_of};
-    ghost use Rattle.sb_core.specs.Progress.{ReadLeads};
+    ghost use Rattle.sb_core.specs.Cores.{geometry_of, reading_of};
+    ghost use Rattle.sb_core.specs.Leads.{ReadLeads};
     ghost use Rattle.sb_core.specs.Steps.{AnswersRead, CopiesRead, read_entry};
     ghost use Rattle.sb_crew.specs.Bases.{base_of};
     ghost use Rattle.sb_crew.specs.Outcomes.{ReadDoes};
@@ -45,7 +45,7 @@ impl<T: Tape> Alone<T> {
         ensures event { Event (disk_of T.Tape self.old) (disk_of T.Tape self.new) now (read_entry 1 self.new.reading part out.new room.new result) }
         ensures answer { AnswersRead self.old.core self.new.reading part.block result }
         ensures copies { CopiesRead self.old.core part out.new room.new result }
-        ensures leads { ReadLeads self.old.core self.new.core 1 part.block result }
+        ensures leads { ReadLeads self.old.core self.new.core 1 part.block room.new result }
         ensures current { self.new.reading ≡ reading_of self.new.core }
     {
         let step = self.core.read(now, PASS, part, out, room);

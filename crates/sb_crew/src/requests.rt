@@ -1,8 +1,8 @@
 //! The requests to the store that a core asks for.
 
-ghost use Rattle.std.specs.Prelude.{◌≡◌, ◌≤◌, ◌^◌, ◌∷◌, [], length, vec_len, IfOk, IsOk};
+ghost use Rattle.std.specs.Prelude.{◌≡◌, ◌≤◌, ◌<◌, ◌^◌, ◌∷◌, [], length, vec_len, IfOk, IsOk};
 ghost use Rattle.sb_base.specs.Lines.{shown_of};
-ghost use Rattle.sb_core.specs.Steps.{is_taken};
+ghost use Rattle.sb_core.specs.Judging.{judged, is_taken};
 ghost use Rattle.sb_history.specs.ClockTrace.{is_late};
 ghost use Rattle.sb_crew.specs.Answers.{shown_for, fault_for};
 
@@ -59,15 +59,15 @@ fn is_late(expect: Option<Expect>, begun: u64, limit: u32) -> bool
 }
 
 impl<T: Tape> Alone<T> {
-    ghost use Rattle.std.specs.Prelude.{Some};
+    ghost use Rattle.std.specs.Prelude.{Some, None};
     ghost use Rattle.sb_world.specs.Calls.{fault_of, HasFailed, IsAsked};
     ghost use Rattle.sb_world.specs.Told.{Gains, CountsFaults};
     ghost use Rattle.sb_history.specs.Contents.{is_zeros};
     ghost use Rattle.sb_history.specs.Requests.{meta_of, put_call};
     ghost use Rattle.sb_history.specs.Window.{answer_digest};
-    ghost use Rattle.sb_core.specs.Represents.{geometry_of, settings_of, reading_of};
-    ghost use Rattle.sb_core.specs.Progress.{IsCloser, LeavesNothing};
-    ghost use Rattle.sb_core.specs.Steps.{HasGet, HasPut, get_end_answer, get_end_entry};
+    ghost use Rattle.sb_core.specs.Cores.{geometry_of, settings_of, reading_of};
+    ghost use Rattle.sb_core.specs.Leads.{IsIdleBut, IsCloser, LeavesNothing, steps_left};
+    ghost use Rattle.sb_core.specs.Steps.{HasGet, HasPut, get_end_entry};
     ghost use Rattle.sb_crew.specs.Names.{name_of};
     ghost use Rattle.sb_crew.specs.Ready.{IsReady};
     ghost use Rattle.sb_crew.specs.Disks.{disk_of, scene_of};
@@ -82,12 +82,14 @@ impl<T: Tape> Alone<T> {
         job: GetJob,
     ) -> Result<u64, CallFault>
         requires job { HasGet self.old.core 1 job }
+        requires idle { IsIdleBut job.block self.old.core }
+        requires unverified { job.verify ≡ None }
         requires current { self.old.reading ≡ reading_of self.old.core }
         requires room { vec_len desk.old.room ≡ (geometry_of self.old.core).block_size }
         ensures did { let scene = scene_of T.Tape L.Link C.Clock in
             FetchDoes (scene self.old desk.old) (scene self.new desk.new) job result }
         ensures ready { IsReady self.new.core self.new.reading (vec_len desk.new.room) }
-        ensures leads { IfOk result (GoesOn self.old.core self.new.core (C.latest desk.old.clock)) }
+        ensures leads { IfOk result (GoesOn self.old.core self.new.core job.block (C.latest desk.old.clock)) }
         ensures next { IfOk result (IsLatest (C.latest desk.new.clock)) }
     {
         let link = &mut desk.link;
@@ -135,16 +137,19 @@ impl<T: Tape> Alone<T> {
     ) -> GetDone
         requires now { now ≤ 2 ^ 62 }
         requires job { HasGet self.old.core 1 job }
+        requires idle { IsIdleBut job.block self.old.core }
+        requires unverified { job.verify ≡ None }
         requires asked { IsAsked got job.verify }
         requires current { self.old.reading ≡ reading_of self.old.core }
         requires room { length room.now ≡ (geometry_of self.old.core).block_size }
         ensures event { Event (disk_of T.Tape self.old) (disk_of T.Tape self.new) now
             (get_end_entry 1 self.new.reading job (shown_for got room.now) result) }
-        ensures answer { result
-            ≡ get_end_answer (geometry_of self.old.core).block_size job (shown_for got room.now) }
+        ensures answer { result ≡ judged job.expect
+            (answer_digest (geometry_of self.old.core).block_size job.verify (shown_for got room.now)) }
         ensures ready { IsReady self.new.core self.new.reading (length room.now) }
-        ensures closer { result ≡ GetDone.Taken → IsCloser self.old.core self.new.core }
-        ensures nothing { LeavesNothing self.new.core result }
+        ensures closer { result ≡ GetDone.Taken
+            → steps_left self.new.core job.block < steps_left self.old.core job.block }
+        ensures nothing { LeavesNothing self.old.core self.new.core job.block result }
     {
         let verify = job.verify();
         let block = job.block();
@@ -171,6 +176,7 @@ impl<T: Tape> Alone<T> {
         job: PutJob,
     ) -> Result<u64, FlushFault>
         requires job { HasPut self.old.core 1 job }
+        requires idle { IsIdleBut job.block self.old.core }
         requires zeros { job.zeros ≡ is_zeros desk.old.room.items }
         requires current { self.old.reading ≡ reading_of self.old.core }
         requires room { vec_len desk.old.room ≡ (geometry_of self.old.core).block_size }
@@ -197,6 +203,7 @@ impl<T: Tape> Alone<T> {
     fn end_store(&mut self, now: u64, room: &[u8], job: PutJob, sent: Result<(), LinkFault>)
         requires now { now ≤ 2 ^ 62 }
         requires job { HasPut self.old.core 1 job }
+        requires idle { IsIdleBut job.block self.old.core }
         requires current { self.old.reading ≡ reading_of self.old.core }
         requires room { length room.now ≡ (geometry_of self.old.core).block_size }
         ensures event { Event (disk_of T.Tape self.old) (disk_of T.Tape self.new) now (put_ended job.block self.new.reading sent) }

@@ -2,7 +2,7 @@
 
 ghost use Rattle.std.specs.Prelude.{◌≡◌, ◌≤◌, ◌^◌, length, vec_len};
 ghost use Rattle.sb_base.specs.Lines.{entry_kind_of};
-ghost use Rattle.sb_core.specs.Steps.{write_kind};
+ghost use Rattle.sb_core.specs.Writing.{write_kind};
 ghost use Rattle.sb_base.specs.Ranges.{IsPart};
 
 use crate::alone::{Alone, PASS};
@@ -27,9 +27,9 @@ fn write_kind<'a>(step: &WriteStep, part: Part, bytes: &'a [u8], room: &'a [u8])
 }
 
 impl<T: Tape> Alone<T> {
-    ghost use Rattle.sb_core.specs.Represents.{geometry_of, reading_of};
-    ghost use Rattle.sb_core.specs.Progress.{WriteLeads};
-    ghost use Rattle.sb_core.specs.Steps.{AnswersWrite, CopiesWrite, write_entry};
+    ghost use Rattle.sb_core.specs.Cores.{geometry_of, reading_of};
+    ghost use Rattle.sb_core.specs.Leads.{WriteLeads};
+    ghost use Rattle.sb_core.specs.Writing.{AnswersWrite, CopiesWrite, write_entry};
     ghost use Rattle.sb_crew.specs.Bases.{base_of};
     ghost use Rattle.sb_crew.specs.Outcomes.{WriteDoes};
     ghost use Rattle.sb_crew.specs.Ready.{IsReady};
@@ -45,7 +45,7 @@ impl<T: Tape> Alone<T> {
         ensures event { Event (disk_of T.Tape self.old) (disk_of T.Tape self.new) now (write_entry 1 self.new.reading part bytes.now room.new result) }
         ensures answer { AnswersWrite self.old.core self.new.reading part result }
         ensures copies { CopiesWrite self.old.core room.new result }
-        ensures leads { WriteLeads self.old.core self.new.core 1 part.block result }
+        ensures leads { WriteLeads self.old.core self.new.core 1 part.block room.new result }
         ensures current { self.new.reading ≡ reading_of self.new.core }
     {
         let step = self.core.write(now, PASS, part, bytes, room);

@@ -3,7 +3,7 @@
 ghost use Rattle.std.specs.Prelude.{◌≡◌, vec_len};
 ghost use Rattle.sb_base.specs.Shapes.{IsSound};
 ghost use Rattle.sb_world.specs.Told.{CountsFaults};
-ghost use Rattle.sb_core.specs.Represents.{geometry_of};
+ghost use Rattle.sb_core.specs.Cores.{geometry_of};
 ghost use Rattle.sb_crew.specs.Bases.{base_of};
 ghost use Rattle.sb_crew.specs.Disks.{core_of, scene_of, IsReadyWith};
 ghost use Rattle.sb_crew.specs.Runs.{Did};

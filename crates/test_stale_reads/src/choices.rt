@@ -1,7 +1,7 @@
 //! Which versions the GETs of a call show.
 
 use crate::draws::Draws;
-use crate::tally::{Tally, is_dirty};
+use crate::tally::{Tally, dirty_blocks};
 use crate::versions::{Put, puts_of, visible_versions};
 use sb_base::Entry;
 use sb_fakes::{Show, TimedStore};
@@ -22,8 +22,8 @@ const MOST_GETS: u64 = 51;
 /// What GETs show.
 #[derive(Drop, Clone, Copy, PartialEq, Eq, Debug)]
 pub enum Showing {
-    /// What a store may show that is stale for so many milliseconds, which aren't 0 and at most 400. While a block is
-    /// dirty that is the newest version, since the reading of a GET isn't known then.
+    /// What a store may show that is stale for so many milliseconds, which aren't 0 and at most 400. While the cache is
+    /// full of dirty blocks that is the newest version: a block has to be put first, and the reading of a GET isn't known.
     Within(u64),
     /// Any version.
     Any,
@@ -37,19 +37,21 @@ pub(crate) fn choose_all(link: &mut TimedStore, shows: &[Show]) -> Result<(), Al
     Ok(())
 }
 
-/// What the GETs of a call show, which is made at a reading after these entries, and may ask for the block.
+/// What the GETs of a call show, which is made at a reading after these entries, and may ask for the block. The cache has
+/// room for so many blocks.
 pub(crate) fn shows_for(
     alloc: Global,
     draws: &mut Draws,
     showing: Showing,
     entries: &[Entry],
+    cache_size: u32,
     block: u32,
     now: u64,
 ) -> Result<Vec<Show>, AllocError> {
     let first = Tally::of(entries).gets.saturating_add(1);
     let puts = puts_of(alloc, entries, block)?;
     match showing {
-        Showing::Within(_) if is_dirty(entries) => newest(alloc, first),
+        Showing::Within(_) if dirty_blocks(entries) >= cache_size as usize => newest(alloc, first),
         Showing::Within(delay) => within(alloc, draws, &puts, first, now, delay),
         Showing::Any => any(alloc, draws, puts.len(), first),
     }

@@ -2,7 +2,7 @@
 
 ghost use Rattle.std.specs.Prelude.{◌≡◌, ◌<◌, Some, IfOk, vec_len};
 ghost use Rattle.sb_base.specs.SettingsTable.{IsChecked};
-ghost use Rattle.sb_core.specs.Represents.{geometry_of};
+ghost use Rattle.sb_core.specs.Cores.{geometry_of};
 ghost use Rattle.sb_crew.specs.Disks.{core_of, IsReadyWith};
 ghost use Rattle.sb_crew.specs.Ready.{IsReady};
 
@@ -33,7 +33,6 @@ pub fn disk_with<T: Tape + Drop>(
     tape: T,
 ) -> Result<Alone<T>, AllocError>
     requires checked { IsChecked settings (Some 4) }
-    requires one { settings.cache_size ≡ 1 }
     ensures shape { IfOk result (λ disk. geometry_of (core_of disk) ≡ GEOMETRY) }
     ensures ready { IfOk result (λ disk. IsReady disk.core disk.reading 512) }
 {

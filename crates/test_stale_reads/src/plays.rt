@@ -2,7 +2,7 @@
 
 ghost use Rattle.std.specs.Prelude.{◌≡◌, Some};
 ghost use Rattle.sb_base.specs.SettingsTable.{IsChecked};
-ghost use Rattle.sb_core.specs.Represents.{geometry_of};
+ghost use Rattle.sb_core.specs.Cores.{geometry_of};
 ghost use Rattle.sb_crew.specs.Disks.{core_of, IsReadyWith};
 ghost use Rattle.test_stale_reads.specs.declared.disks.TheConstants.{GEOMETRY};
 
@@ -60,6 +60,8 @@ pub struct Ended {
 struct Player<'a> {
     draws: Draws,
     showing: Showing,
+    /// How many blocks the cache has room for.
+    cache_size: u32,
     /// The delays that the settings cover.
     covered: Delays,
     /// What the disk began with, and what it is to have.
@@ -127,7 +129,15 @@ impl<'a> Player<'a> {
         let shows = match self.tape.try_borrow() {
             Ok(tape) => match tape.entries() {
                 Some(entries) => {
-                    shows_for(alloc, &mut self.draws, self.showing, entries, block, now)?
+                    shows_for(
+                        alloc,
+                        &mut self.draws,
+                        self.showing,
+                        entries,
+                        self.cache_size,
+                        block,
+                        now,
+                    )?
                 }
                 None => return Err(AllocError),
             },
@@ -252,7 +262,6 @@ impl<'a> Player<'a> {
         store: TimedStore,
     ) -> Result<Counts, AllocError>
         requires checked { IsChecked settings (Some 4) }
-        requires one { settings.cache_size ≡ 1 }
     {
         let mut desk = desk_over(alloc, store, HandClock::new(alloc, 1000, 0, false))?;
         let mut disk = disk_with(alloc, settings, SharedTape { kept: self.tape })?;
@@ -271,7 +280,6 @@ pub fn play(
     showing: Showing,
 ) -> Result<Ended, AllocError>
     requires checked { IsChecked settings (Some 4) }
-    requires one { settings.cache_size ≡ 1 }
 {
     let mut draws = Draws::new(seed);
     let start = Image::drawn(alloc, &mut draws)?;
@@ -281,6 +289,7 @@ pub fn play(
     let player = Player {
         draws,
         showing,
+        cache_size: settings.cache_size,
         covered: Delays {
             order: u64::from(settings.min_write_delay),
             show: u64::from(settings.md5_time),

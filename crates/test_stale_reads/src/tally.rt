@@ -88,16 +88,23 @@ pub fn fail_as_planned(entries: &[Entry], planned: &[u64]) -> bool {
     true
 }
 
-/// Whether a block is dirty, on a disk whose cache holds one block and no request is open: it was written after the
-/// last put that ended ok.
-pub fn is_dirty(entries: &[Entry]) -> bool {
-    let mut dirty = false;
+/// How many blocks are dirty, on a disk of four blocks with no request open: they were written after their last put that
+/// ended ok.
+pub fn dirty_blocks(entries: &[Entry]) -> usize {
+    let mut dirty = [false; 4];
     for entry in entries {
         match &entry.kind {
-            EntryKind::Write(..) => dirty = true,
-            EntryKind::PutEnd(_, true) => dirty = false,
+            EntryKind::Write(part, _) => set(&mut dirty, part.block, true),
+            EntryKind::PutEnd(block, true) => set(&mut dirty, *block, false),
             _ => {}
         }
     }
-    dirty
+    dirty.iter().filter(|is| **is).count()
+}
+
+/// Sets what is said of a block.
+fn set(dirty: &mut [bool], block: u32, is: bool) {
+    if let Some(place) = dirty.get_mut(block as usize) {
+        *place = is;
+    }
 }

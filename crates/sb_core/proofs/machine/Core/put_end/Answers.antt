@@ -1,41 +1,53 @@
-use Rattle.std.proofs.Common.{max, arith, ◌≤◌, ◌∙◌, ap, is_some}
-use Rattle.sb_core.proofs.PutLaws.{ends_kept}
-use Rattle.sb_core.proofs.PutEnds.{put_ends}
-use Rattle.sb_core.proofs.Keeping.{ended_is_window, ended_opens, ended_owes, ended_expects}
+use Rattle.std.proofs.Common.{◌≡◌, ◌∙◌, Some, subst, sym, ap}
+use Rattle.sb_base.specs.declared.entry.EntryKind.TheVariants as kind
+use Rattle.std.specs.FinMap.{get}
+use Rattle.sb_blocks.specs.Cached.{put_in}
+use Rattle.sb_blocks.specs.Caches.{CacheState}
+use Rattle.sb_core.specs.Leads.{OthersIdle}
+use Rattle.sb_core.proofs.LeadEvents.{since_closer}
+use Rattle.sb_blocks.specs.declared.cached.OpenPut.{OpenPut}
+use Rattle.sb_core.proofs.CoreEvents.{adds_ticked}
+use Rattle.sb_core.proofs.Endings.{put_ends_from}
+use Rattle.sb_core.proofs.LeadEnds.{end_idle, end_others, end_closer, end_dirty}
 use Rattle.sb_core.proofs.machine.Core.put_end.Goals as goal
 
-pub invariant_of-self-clause-its_window : goal.invariant_of-self-clause-its_window
-invariant_of-self-clause-its_window c =
-    let core = c.args.self.now in
-    rw c.end_put.ensures (ended_is_window core.geometry core.settings core.window c.args.job.block c.max-self.result
-    c.args.ok core.its_window)
-
-pub invariant_of-self-clause-opens : goal.invariant_of-self-clause-opens
-invariant_of-self-clause-opens c =
-    let core = c.args.self.now in
-    rw (c.end_put.ensures, c.put_ended-self.ensures) (ended_opens core.window core.state c.args.job.block
-    c.max-self.result c.args.ok (ap is_some c.requires.job) core.opens)
-
-pub invariant_of-self-clause-owes : goal.invariant_of-self-clause-owes
-invariant_of-self-clause-owes c =
-    let core = c.args.self.now in
-    rw c.put_ended-self.ensures (ended_owes _ core.state c.args.ok core.owes)
-
-pub invariant_of-self-clause-expects : goal.invariant_of-self-clause-expects
-invariant_of-self-clause-expects c =
-    let core = c.args.self.now in
-    λ off. rw c.put_ended-self.ensures (ended_expects core.state c.args.ok (core.expects off))
-
 pub returns-clause-represents : goal.returns-clause-represents
-returns-clause-represents c past s =
-    let core = c.args.self.now in
-    let now = max c.args.now core.reading in
-    let later : core.reading ≤ now = omega arith in
-    let le : core.window.reading ≤ now = omega (arith, core.given) in
-    let job = c.args.job in
-    let kept = ends_kept core.geometry core.settings core.window past core.its_window s.last_puts c.args.pass job.block
-    now c.args.ok le (λ on. core.opens.opened on job.block ∙ ap is_some c.requires.job) in
-    rw (c.put_ended-self.ensures, c.end_put.ensures, c.max-self.ensures) (put_ends core.geometry core.settings
-    core.reading core.epoch now core.state core.body.items past c.args.pass job.block c.args.ok later c.requires.job
-    kept
-    s)
+returns-clause-represents c =
+    let mid = c.tick-place.new.self in
+    let put : OpenPut = record { pass = c.args.pass; zeros = c.args.job.zeros } in
+    let opened : put_in (get mid.blocks.cached c.args.job.block) ≡ Some put =
+    rw c.tick-place.ensures.blocks c.requires.job in
+    adds_ticked c.args.self.now mid c.end_put.new.self c.args.now c.tick-place.result c.args.pass
+    (kind.PutEnd c.args.job.block c.args.ok) c.tick-place.ensures
+    (put_ends_from mid c.end_put.new.self c.tick-place.result c.args.job.block c.args.ok put opened c.end_put.ensures)
+
+pub returns-clause-idle : goal.returns-clause-idle
+returns-clause-idle c idle =
+    let put : OpenPut = record { pass = c.args.pass; zeros = c.args.job.zeros } in
+    let mid = c.tick-place.new.self in
+    let opened : put_in (get mid.blocks.cached c.args.job.block) ≡ Some put =
+    rw c.tick-place.ensures.blocks c.requires.job in
+    end_idle mid c.end_put.new.self c.args.job.block c.args.ok put opened c.end_put.ensures
+    (subst (λ (b : CacheState). OthersIdle c.args.job.block b.cached) (sym c.tick-place.ensures.blocks) idle)
+
+pub returns-clause-closer : goal.returns-clause-closer
+returns-clause-closer c is =
+    let put : OpenPut = record { pass = c.args.pass; zeros = c.args.job.zeros } in
+    let mid = c.tick-place.new.self in
+    let opened : put_in (get mid.blocks.cached c.args.job.block) ≡ Some put =
+    rw c.tick-place.ensures.blocks c.requires.job in
+    since_closer c.args.self.now mid c.end_put.new.self c.args.now c.tick-place.result c.tick-place.ensures
+    (end_closer mid c.end_put.new.self c.args.job.block c.args.ok put opened c.end_put.ensures is)
+
+pub returns-clause-dirty : goal.returns-clause-dirty
+returns-clause-dirty c is =
+    let put : OpenPut = record { pass = c.args.pass; zeros = c.args.job.zeros } in
+    let mid = c.tick-place.new.self in
+    let opened : put_in (get mid.blocks.cached c.args.job.block) ≡ Some put =
+    rw c.tick-place.ensures.blocks c.requires.job in
+    end_dirty mid c.end_put.new.self c.args.job.block c.args.ok put opened c.end_put.ensures is
+
+pub returns-clause-others : goal.returns-clause-others
+returns-clause-others c other apart =
+    end_others c.tick-place.new.self c.end_put.new.self c.args.job.block c.args.ok c.end_put.ensures other apart
+    ∙ ap (λ (b : CacheState). get b.cached other) c.tick-place.ensures.blocks

@@ -1,65 +1,92 @@
-use Rattle.std.proofs.Common.{max, arith, ◌≤◌, sym, ◌∙◌, refl}
-use Rattle.sb_window.specs.Windows.{expected}
-use Rattle.sb_core.proofs.Fields.{held_is}
-use Rattle.sb_core.proofs.Events.{reads, get_begins}
-use Rattle.sb_core.proofs.PutLaws.{expects}
-use Rattle.sb_core.proofs.Waiting.{waits_since}
+use Rattle.std.proofs.Common.{arith, sym, ◌≡◌, ◌<◌, None}
+use Rattle.std.specs.FinMap.{get, len}
+use Rattle.sb_base.specs.declared.line.Why.TheVariants.{Busy}
+use Rattle.sb_base.specs.declared.entry.EntryKind.TheVariants as kind
+use Rattle.sb_core.proofs.CoreEvents.{adds_ticked, waits_from, get_from, read_from, missing_is, stays_put}
+use Rattle.sb_core.proofs.LeadEvents.{since_keeps, since_end, since_get, since_put, since_on, since_wait}
+use Rattle.sb_core.proofs.LeadEvents.{read_ends, read_keeps, get_leads, get_keeps, busy_waits, asked_open}
 use Rattle.sb_core.proofs.machine.Core.read.Goals as goal
 
 pub returns-then-holds-clause-represents : goal.returns-then-holds-clause-represents
-returns-then-holds-clause-represents c past s =
-    let core = c.args.self.now in
-    let now = max c.args.now core.reading in
-    let later : core.reading ≤ now = omega arith in
-    let held = held_is core.state core.body.items c.args.part.block (sym c.holds.ensures ∙ c.if-holds.true) in
-    rw c.max-self.ensures (reads core.geometry core.settings core.reading core.epoch now core.state core.body.items
-    past c.args.pass c.args.part _ later held c.copy.ensures s)
+returns-then-holds-clause-represents c =
+    let mid = c.tick-place.new.self in
+    adds_ticked c.args.self.now mid c.read_held.new.self c.args.now c.tick-place.result c.args.pass
+    (kind.Read c.args.part c.read_held.new.out) c.tick-place.ensures
+    (read_from mid c.read_held.new.self c.tick-place.result c.args.pass c.args.part c.read_held.new.out
+    c.read_held.ensures (sym c.if-holds.ensures))
 
-pub returns-in-Free-clause-represents : goal.returns-in-Free-clause-represents
-returns-in-Free-clause-represents c past s =
-    let core = c.args.self.now in
-    let now = max c.args.now core.reading in
-    let later : core.reading ≤ now = omega arith in
-    let le : core.window.reading ≤ now = omega (arith, core.given) in
-    let has = c.in-Free.ensures.adds in
-    let moves = c.begin_get.ensures.moves in
-    let begun = get_begins core.geometry core.settings core.reading core.epoch now core.body.items past c.args.pass
-    c.args.part.block (expected core.window c.args.part.block now) later c.requires.part.block
-    (expects core.geometry core.settings core.window past core.its_window s.last_puts c.args.part.block now le)
-    (rw has.missing at s) in
-    rw (
-      c.begin_get.ensures.job,
-      moves.rest.geometry,
-      moves.rest.settings,
-      moves.window,
-      moves.rest.reading,
-      moves.rest.epoch,
-      moves.state,
-      moves.rest.body,
-      has.same.rest.geometry,
-      has.same.rest.settings,
-      has.same.window,
-      has.same.rest.reading,
-      has.same.rest.epoch,
-      has.same.rest.body,
-      c.max-self.ensures,
-    ) begun
+pub returns-then-not-is_missing-clause-represents : goal.returns-then-not-is_missing-clause-represents
+returns-then-not-is_missing-clause-represents c =
+    let mid = c.tick-place.new.self in
+    adds_ticked c.args.self.now mid mid c.args.now c.tick-place.result c.args.pass
+    (kind.Waited (Busy c.args.part.block)) c.tick-place.ensures
+    (λ before past later next s. waits_from mid mid c.args.pass (Busy c.args.part.block) (stays_put mid) before
+    c.tick-place.result past later next s)
+
+pub returns-then-free-ne0-clause-represents : goal.returns-then-free-ne0-clause-represents
+returns-then-free-ne0-clause-represents c =
+    let mid = c.tick-place.new.self in
+    let missing : get mid.blocks.cached c.args.part.block ≡ None =
+    missing_is (get mid.blocks.cached c.args.part.block) (sym c.if-not-is_missing.ensures) in
+    let free : len mid.blocks.cached < mid.settings.cache_size =
+    omega (arith, c.free.ensures, c.if-free-ne0.true, mid.its_cache.room) in
+    let on : c.args.part.block < mid.geometry.blocks = rw c.tick-place.ensures.geometry c.requires.part.block in
+    adds_ticked c.args.self.now mid c.begin_get.new.self c.args.now c.tick-place.result c.args.pass
+    (kind.GetBegin c.begin_get.result.block c.begin_get.result.expect c.begin_get.result.verify) c.tick-place.ensures
+    (λ before past later next s. get_from mid c.begin_get.new.self c.args.pass c.args.part.block c.begin_get.result
+    c.begin_get.ensures.starts missing free on before c.tick-place.result past later next s)
 
 pub returns-in-Dropped-clause-represents : goal.returns-in-Dropped-clause-represents
-returns-in-Dropped-clause-represents c past s =
-    let later : c.args.self.now.reading ≤ c.max-self.result = omega (arith, c.max-self.ensures) in
-    rw c.max-self.ensures at (c.in-Dropped.ensures.adds c.args.self.now.reading past later s)
+returns-in-Dropped-clause-represents c =
+    adds_ticked c.args.self.now c.tick-place.new.self c.make_room.new.self c.args.now c.tick-place.result c.args.pass
+    (kind.Dropped c.in-Dropped.block) c.tick-place.ensures
+    (λ before past later next s. c.in-Dropped.ensures.adds before c.tick-place.result past later next s)
 
 pub returns-in-Put-clause-represents : goal.returns-in-Put-clause-represents
-returns-in-Put-clause-represents c past s =
-    let later : c.args.self.now.reading ≤ c.max-self.result = omega (arith, c.max-self.ensures) in
-    rw c.max-self.ensures at (c.in-Put.ensures.adds c.args.self.now.reading past later s)
+returns-in-Put-clause-represents c =
+    adds_ticked c.args.self.now c.tick-place.new.self c.make_room.new.self c.args.now c.tick-place.result c.args.pass
+    (kind.PutBegin c.in-Put.job.block c.make_room.new.out) c.tick-place.ensures
+    (λ before past later next s. c.in-Put.ensures.adds before c.tick-place.result past later next s)
 
 pub returns-in-Wait-clause-represents : goal.returns-in-Wait-clause-represents
-returns-in-Wait-clause-represents c past s =
-    let later : c.args.self.now.reading ≤ c.max-self.result = omega (arith, c.max-self.ensures) in
-    rw c.max-self.ensures at (c.in-Wait.ensures.adds c.args.self.now.reading past later s)
+returns-in-Wait-clause-represents c =
+    adds_ticked c.args.self.now c.tick-place.new.self c.make_room.new.self c.args.now c.tick-place.result c.args.pass
+    (kind.Waited c.in-Wait.why) c.tick-place.ensures
+    (λ before past later next s. c.in-Wait.ensures.adds before c.tick-place.result past later next s)
+
+pub returns-then-holds-clause-leads : goal.returns-then-holds-clause-leads
+returns-then-holds-clause-leads c =
+    let mid = c.tick-place.new.self in
+    since_end c.args.self.now mid c.read_held.new.self c.args.now c.tick-place.result c.tick-place.ensures
+    (read_ends mid c.read_held.new.self c.tick-place.result c.args.part c.read_held.new.out c.read_held.ensures)
+
+pub returns-then-holds-clause-open : goal.returns-then-holds-clause-open
+returns-then-holds-clause-open c =
+    let mid = c.tick-place.new.self in
+    since_keeps c.args.self.now mid c.read_held.new.self c.args.now c.tick-place.result c.tick-place.ensures
+    (read_keeps mid c.read_held.new.self c.tick-place.result c.args.part c.read_held.new.out c.read_held.ensures)
+
+pub returns-then-free-ne0-clause-leads : goal.returns-then-free-ne0-clause-leads
+returns-then-free-ne0-clause-leads c =
+    let mid = c.tick-place.new.self in
+    let missing : get mid.blocks.cached c.args.part.block ≡ None =
+    missing_is (get mid.blocks.cached c.args.part.block) (sym c.if-not-is_missing.ensures) in
+    let free : len mid.blocks.cached < mid.blocks.room = omega (arith, c.free.ensures, c.if-free-ne0.true) in
+    since_get c.args.self.now mid c.begin_get.new.self c.args.now c.tick-place.result c.tick-place.ensures c.args.pass
+    c.args.part.block c.begin_get.result
+    (get_leads mid c.begin_get.new.self c.args.pass c.args.part.block c.begin_get.result c.begin_get.ensures.starts
+    missing free c.begin_get.ensures.opens)
+
+pub returns-then-free-ne0-clause-open : goal.returns-then-free-ne0-clause-open
+returns-then-free-ne0-clause-open c =
+    let mid = c.tick-place.new.self in
+    let missing : get mid.blocks.cached c.args.part.block ≡ None =
+    missing_is (get mid.blocks.cached c.args.part.block) (sym c.if-not-is_missing.ensures) in
+    since_keeps c.args.self.now mid c.begin_get.new.self c.args.now c.tick-place.result c.tick-place.ensures
+    (get_keeps mid c.begin_get.new.self c.args.pass c.args.part.block c.begin_get.result c.begin_get.ensures.starts
+    missing)
 
 pub returns-in-Wait-clause-leads : goal.returns-in-Wait-clause-leads
 returns-in-Wait-clause-leads c =
-    waits_since c.args.self.now _ c.in-Wait.why refl refl c.in-Wait.ensures.leads
+    since_wait c.args.self.now c.tick-place.new.self c.make_room.new.self c.args.now c.tick-place.result
+    c.tick-place.ensures None c.in-Wait.why c.in-Wait.ensures.leads

@@ -1,7 +1,13 @@
 use Rattle.std.proofs.Common.{rules, ◌∙◌, ap, Ok, Err}
 use Rattle.sb_crew.specs.Answers.{call_fault}
-use Rattle.sb_crew.proofs.Requesting.{fetch_failed, fetch_stale, fetch_paused}
+use Rattle.sb_crew.proofs.Requesting.{fetch_taken, fetch_failed, fetch_stale, fetch_paused}
 use Rattle.sb_crew.proofs.alone.Alone.fetch.Goals as goal
+
+pub returns-in-Taken-clause-did : goal.returns-in-Taken-clause-did
+returns-in-Taken-clause-did g c =
+    fetch_taken c.args.job c.get-got.result c.get-got.new.out c.now-now.result c.end_fetch.new.self.reading
+    c.end_fetch.result c.now.result c.requires.job (search rules) c.get-got.ensures.cause c.now-now.ensures.told
+    c.end_fetch.ensures.event c.end_fetch.ensures.answer c.in-Taken.is c.now.ensures.told
 
 pub returns-in-Err-clause-did : goal.returns-in-Err-clause-did
 returns-in-Err-clause-did g c =

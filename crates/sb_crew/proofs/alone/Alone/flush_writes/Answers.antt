@@ -2,9 +2,9 @@ use Rattle.std.proofs.Common.{◌∙◌, [], ◌∷◌, refl, sym, ap, arith}
 use Rattle.std.proofs.lemmas.Result.{err_from_is_err_and}
 use Rattle.sb_base.specs.declared.geometry.Geometry.{Geometry}
 use Rattle.sb_base.specs.declared.entry.EntryKind.TheVariants as kind
-use Rattle.sb_core.specs.Steps.{flush_step_entry}
-use Rattle.sb_core.specs.Progress.{is_idle}
+use Rattle.sb_core.specs.Flushing.{flush_step_entry}
 use Rattle.sb_crew.specs.Outcomes.{FlushEnded}
+use Rattle.sb_crew.proofs.Measures.{idle_stays}
 use Rattle.sb_crew.proofs.Asking.{ahead}
 use Rattle.sb_crew.proofs.Flushing.{flush_stops}
 use Rattle.sb_crew.proofs.Rooms.{slice_back}
@@ -37,7 +37,7 @@ turns-preserved-in-Wait g c =
           (ap (flush_step_entry 1 c.ask_flush.new.self.reading mark c.ask_flush.new.room) c.in-Wait.is)
           c.ask_flush.ensures.event c.in_ok-now-in-Wait.ensures;
       ready = record {
-        idle = ap is_idle c.in-Wait.ensures.leads.state ∙ c.turns.invariant.ready.idle;
+        idle = idle_stays c.turns.self.core c.ask_flush.new.self.core c.in-Wait.ensures.leads.blocks c.turns.invariant.ready.idle;
         current = c.ask_flush.ensures.current;
         whole_room = c.turns.invariant.ready.whole_room
             ∙ ap (λ (geometry : Geometry). geometry.block_size) (sym c.ask_flush.ensures.event.base.geometry);

@@ -1,5 +1,5 @@
 use Rattle.std.proofs.Common.{◌+◌, ◌*◌, ◌-◌, ◌^◌, [], ◌∷◌, vec_len}
-use Rattle.sb_core.specs.Progress.{steps_left}
+use Rattle.sb_core.specs.Leads.{steps_left}
 use Rattle.sb_crew.specs.Disks.{scene_of}
 use Rattle.sb_crew.specs.Outcomes.{FlushBegun}
 use Rattle.sb_crew.specs.Ready.{IsReady}

@@ -4,9 +4,8 @@ use Rattle.sb_base.specs.declared.geometry.Geometry.{Geometry}
 use Rattle.sb_base.specs.declared.entry.EntryKind.TheVariants as kind
 use Rattle.sb_base.specs.Ranges.{IsPart}
 use Rattle.sb_core.specs.Steps.{read_entry}
-use Rattle.sb_core.specs.Progress.{is_idle}
 use Rattle.sb_crew.proofs.Asking.{begun_entry, ahead}
-use Rattle.sb_crew.proofs.Measures.{less_behind_get}
+use Rattle.sb_crew.proofs.Measures.{less_behind_get, idle_stays}
 use Rattle.sb_crew.proofs.Rooms.{slice_back}
 use Rattle.sb_crew.proofs.Turning.{any_lasts, starts, after_drop, after_wait, after_get, after_put, ends_with}
 use Rattle.sb_crew.proofs.Turning.{wait_fails, get_fails, put_fails}
@@ -66,7 +65,7 @@ turns-preserved-in-Wait g c =
     record {
       so_far = so_far;
       ready = record {
-        idle = ap is_idle c.in-Wait.ensures.leads.state ∙ c.turns.invariant.ready.idle;
+        idle = idle_stays c.turns.self.core c.ask_read.new.self.core c.in-Wait.ensures.leads.blocks c.turns.invariant.ready.idle;
         current = c.ask_read.ensures.current;
         whole_room = c.turns.invariant.ready.whole_room
             ∙ ap (λ (geometry : Geometry). geometry.block_size) (sym c.ask_read.ensures.event.base.geometry);
@@ -96,9 +95,8 @@ returns-in_err-now-in-Get-clause-did g c =
 
 pub turns-smaller-in-Get : goal.turns-smaller-in-Get
 turns-smaller-in-Get g c =
-    less_behind_get c.turns.self.core c.ask_read.new.self.core c.fetch.new.self.core c.in-Get.job.block
-    c.args.part.block c.turns.now c.in_ok-now-in-Get.now _ _ c.in-Get.ensures.leads.begun
-    c.in-Get.ensures.leads.closer c.in_ok-now-in-Get.ensures.leads c.turns.invariant.latest.is
+    less_behind_get c.turns.self.core c.ask_read.new.self.core c.fetch.new.self.core c.args.part.block
+    c.turns.now c.in_ok-now-in-Get.now _ c.in-Get.job c.in-Get.ensures.leads c.in_ok-now-in-Get.ensures.leads c.turns.invariant.latest.is
     c.in_ok-now-in-Get.ensures.next.limit
 
 pub turns-preserved-in-Get : goal.turns-preserved-in-Get
@@ -126,7 +124,7 @@ turns-preserved-in-Dropped g c =
     record {
       so_far = so_far;
       ready = record {
-        idle = c.in-Dropped.ensures.leads.idle;
+        idle = c.in-Dropped.ensures.leads.idle c.turns.invariant.ready.idle;
         current = c.ask_read.ensures.current;
         whole_room = c.turns.invariant.ready.whole_room
             ∙ ap (λ (geometry : Geometry). geometry.block_size) (sym c.ask_read.ensures.event.base.geometry);
@@ -168,3 +166,7 @@ turns-preserved g c =
           ∙ sym c.turns.invariant.so_far.done.runs.base.geometry)) c.turns.invariant.part;
       out = omega (arith, c.turns.invariant.out);
     }
+
+pub turns-smaller : goal.turns-smaller
+turns-smaller g c =
+    omega (arith, c.in-Put.ensures.leads.closer c.args.part.block, c.in_ok-now-in-Put.ensures.closer c.args.part.block)

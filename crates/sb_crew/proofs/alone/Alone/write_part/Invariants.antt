@@ -1,7 +1,7 @@
 use Rattle.std.proofs.Common.{◌+◌, ◌*◌, ◌-◌, ◌^◌, [], ◌∷◌, vec_len}
 use Rattle.sb_base.specs.Ranges.{IsPart}
-use Rattle.sb_core.specs.Represents.{geometry_of}
-use Rattle.sb_core.specs.Progress.{steps_left}
+use Rattle.sb_core.specs.Cores.{geometry_of}
+use Rattle.sb_core.specs.Leads.{steps_left}
 use Rattle.sb_crew.specs.Disks.{scene_of}
 use Rattle.sb_crew.specs.Ready.{IsReady}
 use Rattle.sb_crew.specs.Runs.{any_past}

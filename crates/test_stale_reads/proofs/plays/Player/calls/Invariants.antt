@@ -1,5 +1,5 @@
 use Rattle.std.proofs.Common.{◌≡◌}
-use Rattle.sb_core.specs.Represents.{geometry_of}
+use Rattle.sb_core.specs.Cores.{geometry_of}
 use Rattle.sb_crew.specs.Disks.{core_of, IsReadyWith}
 use Rattle.test_stale_reads.specs.declared.disks.TheConstants.{GEOMETRY}
 use Rattle.test_stale_reads.proofs.plays.Player.calls.Given as goal

@@ -1,7 +1,0 @@
-use Rattle.std.proofs.Common.{arith, refl}
-use Rattle.sb_core.proofs.tests.disk.Goals as goal
-
-pub new-requires-clause-sound : goal.new-requires-clause-sound
-unfolding lib.Count.ones
-new-requires-clause-sound c =
-    record { block_size = (omega arith, omega arith); power = refl; blocks = (omega arith, omega arith) }
