@@ -5,14 +5,42 @@ import concurrent.futures, os, random, shutil, subprocess, sys, tempfile
 program = sys.argv[1]
 memory = "/dev/shm" if os.access("/dev/shm", os.W_OK) else None
 GREETING = bytes.fromhex("4e42444d41474943 49484156454f5054 0003")
-EXPORT_NAME = bytes.fromhex("49484156454f5054 00000001 00000000")
+NAME, ABORT, LIST, STARTTLS, INFO, GO = 1, 2, 3, 5, 6, 7
+ACK, SERVER, INFO_REPLY = 1, 2, 3
+UNSUP, POLICY, INVALID, UNKNOWN = 0x80000001, 0x80000002, 0x80000003, 0x80000006
 NO_ZEROES = bytes.fromhex("00000003")
 DISC = bytes.fromhex("25609513 0000 0002 0000000000000000 0000000000000000 00000000")
 
 
 READ, WRITE, FLUSH, TRIM, WRITE_ZEROES = 0, 1, 3, 4, 6
+FUA = 1
 EINVAL, ENOSPC = 22, 28
-LARGEST = 33554432
+LARGEST, LARGEST_OPTION = 33554432, 65536
+FLAGS = bytes.fromhex("000d")
+
+
+def option(number, body=b""):
+    return bytes.fromhex("49484156454f5054") + number.to_bytes(4, "big") + len(body).to_bytes(4, "big") + body
+
+
+def asking(name=b"", *kinds):
+    """What INFO and GO carry."""
+    return (len(name).to_bytes(4, "big") + name + len(kinds).to_bytes(2, "big")
+            + b"".join(kind.to_bytes(2, "big") for kind in kinds))
+
+
+def answer(number, kind, body=b""):
+    return (bytes.fromhex("0003e889045565a9") + number.to_bytes(4, "big") + kind.to_bytes(4, "big")
+            + len(body).to_bytes(4, "big") + body)
+
+
+def details(number, size, *kinds):
+    """The answer to INFO or GO that asks for these kinds."""
+    sizes = answer(number, INFO_REPLY, bytes.fromhex("0003 00000001 00001000 02000000")) if 3 in kinds else b""
+    return answer(number, INFO_REPLY, bytes(2) + size.to_bytes(8, "big") + FLAGS) + sizes + answer(number, ACK)
+
+
+EXPORT_NAME = option(NAME)
 
 
 def request(kind, cookie, offset, length, flags=0):
@@ -24,8 +52,8 @@ def read(cookie, offset, length):
     return request(READ, cookie, offset, length)
 
 
-def write(cookie, offset, body):
-    return request(WRITE, cookie, offset, len(body)) + body
+def write(cookie, offset, body, flags=0):
+    return request(WRITE, cookie, offset, len(body), flags) + body
 
 
 def flush(cookie):
@@ -52,7 +80,7 @@ def run(size, given):
 
 
 def export(size):
-    return GREETING + size.to_bytes(8, "big") + bytes.fromhex("0005")
+    return GREETING + size.to_bytes(8, "big") + FLAGS
 
 
 failed = 0
@@ -73,11 +101,35 @@ expect("the end between messages", run(SMALL, OPEN), (0, export(65536), b""))
 expect("the client wants zeroes", run(SMALL, bytes(4) + EXPORT_NAME + DISC), (0, export(65536) + bytes(124), b""))
 expect("reads", run(SMALL, OPEN + read(1, 0, 512) + read(2, 4095, 2) + read(3, 65535, 1) + read(4, 65536, 0) + DISC),
        (0, export(65536) + reply(1, bytes(512)) + reply(2, bytes(2)) + reply(3, bytes(1)) + reply(4, b""), b""))
-refused = b"s3backer: session: refused\n"
+
+
+def ends(text):
+    return f"s3backer: session: {text}\n".encode()
+
+
 expect("a read past the end", run(SMALL, OPEN + read(1, 65536, 1) + DISC), (0, export(65536) + error(22, 1), b""))
-expect("a wrong magic", run(SMALL, OPEN + bytes.fromhex("25609514") + bytes(24)), (7, export(65536), refused))
-expect("a cut request", run(SMALL, OPEN + read(1, 0, 512)[:10]), (7, export(65536), refused))
-expect("unknown flags", run(SMALL, bytes.fromhex("00000004")), (7, GREETING, refused))
+expect("a wrong magic", run(SMALL, OPEN + bytes.fromhex("25609514") + bytes(24)), (7, export(65536), ends("magic")))
+expect("a cut request", run(SMALL, OPEN + read(1, 0, 512)[:10]), (7, export(65536), ends("cut")))
+expect("unknown flags", run(SMALL, bytes.fromhex("00000004")), (7, GREETING, ends("flags")))
+expect("GO", run(SMALL, NO_ZEROES + option(GO, asking()) + DISC), (0, GREETING + details(GO, 65536), b""))
+expect("GO that asks for block sizes", run(SMALL, NO_ZEROES + option(GO, asking(b"", 3)) + DISC),
+       (0, GREETING + details(GO, 65536, 3), b""))
+expect("more first", run(SMALL, NO_ZEROES + option(11) + option(8) + option(GO, asking(b"", 3)) + request(READ, 1, 0, 512, FUA) + DISC),
+       (0, GREETING + answer(11, UNSUP) + answer(8, UNSUP) + details(GO, 65536, 3) + reply(1, bytes(512)), b""))
+expect("INFO and then EXPORT_NAME", run(SMALL, NO_ZEROES + option(INFO, asking(b"", 0, 7, 3)) + EXPORT_NAME + DISC),
+       (0, GREETING + details(INFO, 65536, 3) + export(65536)[18:], b""))
+expect("LIST", run(SMALL, NO_ZEROES + option(LIST) + option(LIST, b"a")),
+       (0, GREETING + answer(LIST, SERVER, bytes(4)) + answer(LIST, ACK) + answer(LIST, INVALID), b""))
+expect("ABORT", run(SMALL, NO_ZEROES + option(ABORT) + option(LIST)), (0, GREETING + answer(ABORT, ACK), b""))
+expect("STARTTLS and an unknown option", run(SMALL, NO_ZEROES + option(STARTTLS) + option(9)),
+       (0, GREETING + answer(STARTTLS, POLICY) + answer(9, UNSUP), b""))
+expect("GO with another name", run(SMALL, NO_ZEROES + option(GO, asking(b"disk", 3)) + option(GO, asking()[:5])),
+       (0, GREETING + answer(GO, UNKNOWN) + answer(GO, INVALID), b""))
+expect("EXPORT_NAME with another name", run(SMALL, NO_ZEROES + option(NAME, b"disk") + DISC), (7, GREETING, ends("no such export")))
+expect("an option that is too long", run(SMALL, NO_ZEROES + option(9, bytes(LARGEST_OPTION + 1))), (7, GREETING, ends("too big")))
+expect("the longest option", run(SMALL, NO_ZEROES + option(9, bytes(LARGEST_OPTION))), (0, GREETING + answer(9, UNSUP), b""))
+expect("a write with FUA", run(SMALL, OPEN + write(1, 4095, b"AB", FUA) + read(2, 4095, 2) + DISC),
+       (0, export(65536) + reply(1, b"") + reply(2, b"AB"), b""))
 expect("a write, a flush and a read", run(SMALL, OPEN + write(1, 0, b"A" * 4096) + flush(2) + read(3, 4095, 2) + DISC),
        (0, export(65536) + reply(1, b"") + reply(2, b"") + reply(3, b"A\0"), b""))
 expect("ranges at the end", run(SMALL, OPEN + write(1, 65535, b"B") + write(2, 65536, b"C") + write(3, 65535, b"DE")
@@ -85,12 +137,12 @@ expect("ranges at the end", run(SMALL, OPEN + write(1, 65535, b"B") + write(2, 6
        (0, export(65536) + reply(1, b"") + error(ENOSPC, 2) + error(ENOSPC, 3) + reply(4, b"B") + error(EINVAL, 5)
         + reply(6, b"") + error(EINVAL, 7), b""))
 expect("requests that are not known", run(SMALL, OPEN + request(TRIM, 1, 0, 512) + request(WRITE_ZEROES, 2, 0, 512)
-                                          + request(99, 3, 0, 0) + request(READ, 4, 0, 512, flags=1) + DISC),
+                                          + request(99, 3, 0, 0) + request(READ, 4, 0, 512, flags=2) + DISC),
        (0, export(65536) + b"".join(error(EINVAL, cookie) for cookie in (1, 2, 3, 4)), b""))
 expect("a read that is too long", run("64m", OPEN + read(1, 0, LARGEST + 1) + DISC),
        (0, export(67108864) + error(EINVAL, 1), b""))
 expect("a write that is too long", run("64m", OPEN + request(WRITE, 1, 0, LARGEST + 1)),
-       (7, export(67108864), refused))
+       (7, export(67108864), ends("too big")))
 expect("no size", run("64q", b""), (2, b"", b"s3backer: usage: --size: not a size: 64q\n"))
 expect("an empty disk", run("0", b"")[0], 2)
 expect("no words", subprocess.run([program], input=b"", capture_output=True, timeout=60).returncode, 2)
@@ -105,31 +157,76 @@ def model(given, size):
         at += count
         return given[at - count:at] if at <= len(given) else None
 
-    well, ill = (lambda: (0, bytes(out), b"")), (lambda: (7, bytes(out), refused))
+    def well():
+        return 0, bytes(out), b""
+
+    def ill(text="cut"):
+        return 7, bytes(out), ends(text)
+
     if not given:
         return well()
     flags = take(4)
-    if flags is None or int.from_bytes(flags, "big") > 3:
+    if flags is None:
         return ill()
-    if at == len(given):
-        return well()
-    if take(16) != EXPORT_NAME:
-        return ill()
-    out += export(size)[len(GREETING):] + (b"" if flags[3] & 2 else bytes(124))
+    if int.from_bytes(flags, "big") > 3:
+        return ill("flags")
+    while True:
+        if at == len(given):
+            return well()
+        magic = take(8)
+        if magic is not None and magic != bytes.fromhex("49484156454f5054"):
+            return ill("magic")
+        head = take(8)
+        if magic is None or head is None:
+            return ill()
+        number, length = int.from_bytes(head[:4], "big"), int.from_bytes(head[4:], "big")
+        if length > LARGEST_OPTION:
+            return ill("too big")
+        body = take(length)
+        if body is None:
+            return ill()
+        if number == NAME:
+            if body:
+                return ill("no such export")
+            out += export(size)[len(GREETING):] + (b"" if flags[3] & 2 else bytes(124))
+            break
+        if number == ABORT:
+            out += answer(ABORT, ACK)
+            return well()
+        if number == LIST:
+            out += answer(LIST, INVALID) if body else answer(LIST, SERVER, bytes(4)) + answer(LIST, ACK)
+        elif number == STARTTLS:
+            out += answer(STARTTLS, POLICY)
+        elif number not in (INFO, GO):
+            out += answer(number, UNSUP)
+        else:
+            length = int.from_bytes(body[:4], "big")
+            kinds = [int.from_bytes(body[i:i + 2], "big") for i in range(6 + length, len(body) - 1, 2)]
+            if body != asking(body[4:4 + length], *kinds):
+                out += answer(number, INVALID)
+            elif length:
+                out += answer(number, UNKNOWN)
+            else:
+                out += details(number, size, *kinds)
+                if number == GO:
+                    break
     while at < len(given):
-        asked = take(28)
-        if asked is None or asked[:4] != bytes.fromhex("25609513"):
+        magic = take(4)
+        if magic is not None and magic != bytes.fromhex("25609513"):
+            return ill("magic")
+        asked = take(24)
+        if magic is None or asked is None:
             return ill()
-        kind, cookie, offset, length = (int.from_bytes(part, "big") for part in (asked[6:8], asked[8:16], asked[16:24], asked[24:]))
+        flags, kind, cookie, offset, length = (int.from_bytes(part, "big") for part in (asked[:2], asked[2:4], asked[4:12], asked[12:20], asked[20:]))
         if kind == WRITE and length > LARGEST:
-            return ill()
+            return ill("too big")
         body = take(length) if kind == WRITE else b""
         if body is None:
             return ill()
         past = offset + length > size
         if kind == 2:
             return well()
-        if kind not in (READ, WRITE, FLUSH) or asked[4:6] != bytes(2) or kind == READ and (length > LARGEST or past):
+        if kind not in (READ, WRITE, FLUSH) or flags > FUA or kind == READ and (length > LARGEST or past):
             out += error(EINVAL, cookie)
         elif kind == WRITE and past:
             out += error(ENOSPC, cookie)
@@ -141,12 +238,16 @@ def model(given, size):
 
 
 SEVERAL = OPEN + write(1, 4090, b"several") + read(2, 4090, 7) + flush(3) + read(4, 0, 3) + DISC
-for cut in range(len(SEVERAL) + 1):
-    expect(f"a session cut at {cut}", run(SMALL, SEVERAL[:cut]), model(SEVERAL[:cut], 65536))
-for place in range(len(SEVERAL)):
-    for value in {0, 1, 127, 255, SEVERAL[place] ^ 2}:
-        changed = SEVERAL[:place] + bytes([value]) + SEVERAL[place + 1:]
-        expect(f"a session with byte {place} made {value}", run(SMALL, changed), model(changed, 65536))
+HAGGLING = (NO_ZEROES + option(LIST) + option(STARTTLS) + option(INFO, asking(b"", 3)) + option(9, b"nine") + option(GO, asking(b"", 0, 3))
+            + write(1, 4095, b"AB", FUA) + read(2, 4095, 2) + DISC)
+ABORTED = NO_ZEROES + option(GO, asking(b"a")) + option(ABORT) + option(LIST)
+for name, whole in (("session", SEVERAL), ("session with options", HAGGLING), ("session that is aborted", ABORTED)):
+    for cut in range(len(whole) + 1):
+        expect(f"a {name} cut at {cut}", run(SMALL, whole[:cut]), model(whole[:cut], 65536))
+    for place in range(len(whole)):
+        for value in {0, 1, 127, 255, whole[place] ^ 2}:
+            changed = whole[:place] + bytes([value]) + whole[place + 1:]
+            expect(f"a {name} with byte {place} made {value}", run(SMALL, changed), model(changed, 65536))
 LONGEST = OPEN + write(1, 4096, random.Random(1).randbytes(LARGEST)) + read(2, 4096, LARGEST) + read(3, 0, LARGEST + 1) + DISC
 expect("the longest write and read", run("64m", LONGEST) == model(LONGEST, 67108864), True)
 
@@ -162,7 +263,7 @@ def random_session(seed, size, count):
         past = offset + length > size
         if kind == WRITE:
             body = choice.choice([bytes(length), choice.randbytes(length)])
-            given += write(cookie, offset, body)
+            given += write(cookie, offset, body, choice.choice([0] * 7 + [FUA]))
             if not past:
                 disk[offset:offset + length] = body
             wanted += error(ENOSPC if past else 0, cookie)

@@ -11,7 +11,7 @@ use Rattle.sb_world.specs.declared.link.Call.{Call}
 use Rattle.sb_world.specs.declared.link.LinkFault.{LinkFault}
 use Rattle.sb_world.specs.declared.link.LinkFault.TheVariants as link
 use Rattle.sb_nbd.specs.declared.wanted.Wanted.{Wanted}
-use Rattle.sb_nbd.specs.Numbers.{einval, eio, enomem, enospc, flush_type, max_payload, read_type, write_type}
+use Rattle.sb_nbd.specs.Numbers.{einval, eio, enomem, enospc, eperm, flush_type, fua, max_payload, read_type, write_type}
 use Rattle.sb_nbd.specs.Requests.{Request}
 use Rattle.sb_crew.specs.Bases.{Base}
 use Rattle.sb_crew.specs.declared.calls.CallFault.{CallFault}
@@ -19,9 +19,10 @@ use Rattle.sb_crew.specs.declared.calls.CallFault.TheVariants.{StoreFault, Memor
 use Rattle.sb_crew.specs.declared.calls.FlushFault.{FlushFault}
 use Rattle.sb_crew.specs.declared.calls.FlushFault.TheVariants as flush
 use Rattle.sb_crew.specs.Scenes.{Deed}
-use Rattle.sb_crew.specs.Outcomes.{Outcome, FailsBy, HasCause, Stops, GoalEnds, FlushEnds}
+use Rattle.sb_crew.specs.Outcomes.{Outcome, FailsBy, HasCause, Stops, GoalEnds}
 use Rattle.sb_crew.specs.Counts.{is_failure, failures, Counts}
 use Rattle.sb_crew.specs.Joins.{failures_join}
+use Rattle.sb_nbd.specs.declared.end.NbdEnd.TheVariants as nbd
 use Rattle.sb_session.specs.declared.end.SessionEnd.{SessionEnd}
 use Rattle.sb_session.specs.declared.end.SessionEnd.TheVariants as end
 use Rattle.sb_session.specs.Goals.{refusal, passes_end, goal_of, body_of}
@@ -29,7 +30,8 @@ use Rattle.sb_session.specs.Answers.{AnswersBy, IsReplyTo, error_of}
 use Rattle.sb_session.specs.Streams.{Streams}
 use Rattle.sb_session.specs.Transcripts.{Exchange, IsTranscript, deed_in}
 use Rattle.sb_session.specs.Sessions.{Course}
-use Rattle.s3backer.specs.Headline.{flush_status, run_status, NoneFailed, FailsByTime}
+use Rattle.s3backer.specs.Headline.{flush_status, run_status, NoneFailed, FailsByTime, LastFlushEnds}
+use Rattle.s3backer.specs.Headline.{IsClientFault}
 
 -- a sum of nothing has nothing in it
 pub sum_nothing : (m n : ℕ) → m + n ≡ 0 → (m ≡ 0) × (n ≡ 0)
@@ -79,21 +81,25 @@ either_other false x y first second = second
 invalid_is_other : IsOther (Some einval)
 invalid_is_other = record { code = λ is. absurd (omega (arith, is)) }
 
+no_permission_is_other : IsOther (Some eperm)
+no_permission_is_other = record { code = λ is. absurd (omega (arith, is)) }
+
 no_space_is_other : IsOther (Some enospc)
 no_space_is_other = record { code = λ is. absurd (omega (arith, is)) }
 
 served_is_other : IsOther None
 served_is_other = record { code = tt }
 
-refused_otherwise : (geometry : Geometry) (w : Wanted) → IsOther (refusal geometry w)
-refused_otherwise geometry w =
+refused_otherwise : (read_only : Bool) (geometry : Geometry) (w : Wanted) → IsOther (refusal read_only geometry w)
+refused_otherwise read_only geometry w =
     either_other (nat_lt flush_type w.kind) _ _ invalid_is_other
-    (either_other (nat_lt 0 w.flags) _ _ invalid_is_other
+    (either_other (nat_lt fua w.flags) _ _ invalid_is_other
     (either_other (nat_eq w.kind read_type) _ _
     (either_other (nat_lt max_payload w.length) _ _ invalid_is_other
     (either_other (passes_end geometry w) _ _ invalid_is_other served_is_other))
     (either_other (nat_eq w.kind write_type) _ _
-    (either_other (passes_end geometry w) _ _ no_space_is_other served_is_other) served_is_other)))
+    (either_other read_only _ _ no_permission_is_other
+    (either_other (passes_end geometry w) _ _ no_space_is_other served_is_other)) served_is_other)))
 
 -- the reply to a request none of whose calls failed
 memory_is_other : enomem ≢ eio
@@ -132,61 +138,69 @@ reply_otherwise None other base r error body deed none answer =
     answer_otherwise base (goal_of base.geometry r answer.0) (body_of r.wanted deed.entries) deed error body
     answer.1.result none answer.1.ends answer.1.reply
 
-replies_otherwise : (base : Base) (xs : List Exchange) → failures (deed_in xs).calls ≡ 0 → IsTranscript base xs
+replies_otherwise : (read_only : Bool) (base : Base) (xs : List Exchange) → failures (deed_in xs).calls ≡ 0
+    → IsTranscript read_only base xs
     → AllByRecursion (λ x. (x.error ≢ eio) ⊎ FailsByTime base x.deed) xs
-replies_otherwise base [] none answered = tt
-replies_otherwise base (x ∷ xs) none answered =
+replies_otherwise read_only base [] none answered = tt
+replies_otherwise read_only base (x ∷ xs) none answered =
     let parts = sum_nothing (failures x.deed.calls) (failures (deed_in xs).calls)
     (sym (failures_join x.deed.calls (deed_in xs).calls) ∙ none) in (
-      reply_otherwise (refusal base.geometry x.request.wanted)
-          (refused_otherwise base.geometry x.request.wanted) base x.request
+      reply_otherwise (refusal read_only base.geometry x.request.wanted)
+          (refused_otherwise read_only base.geometry x.request.wanted) base x.request
           x.error x.body x.deed parts.0 answered.0.answer,
-      replies_otherwise base xs parts.1 answered.1,
+      replies_otherwise read_only base xs parts.1 answered.1,
     )
 
 -- without a fault of the store no reply tells one
-pub none_failed : {base : Base} {transmission : ℕ} {before after : Streams} {ended : SessionEnd} {deed : Deed}
-    (course : Course base transmission before after ended deed) (faults faults' : ℕ) (flush_calls : List Call)
+pub none_failed : {read_only : Bool} {base : Base} {before after : Streams} {ended : SessionEnd} {deed : Deed}
+    (course : Course read_only base before after ended deed) (faults faults' : ℕ) (flush_calls : List Call)
     → (Rose faults faults' → ⊥) → Counts faults faults' (flush_calls ++ deed.calls) → NoneFailed course
 none_failed (inl unserved) faults faults' flush_calls quiet counts = tt
-none_failed {base} {deed = deed} (inr served) faults faults' flush_calls quiet counts =
+none_failed {read_only} {base} {deed = deed} (inr served) faults faults' flush_calls quiet counts =
     let none = quiet_has_none faults faults' (flush_calls ++ deed.calls) quiet counts in
     let parts = sum_nothing (failures flush_calls) (failures deed.calls)
     (sym (failures_join flush_calls deed.calls) ∙ none) in
-    replies_otherwise base served.transcript
+    replies_otherwise read_only base served.transcript
     (ap (λ (d : Deed). failures d.calls) (sym served.deed_is) ∙ parts.1) served.answered
 
 -- a flush none of whose calls failed ended well, or lacked memory, or its clock stood still
-flushed_well : (base : Base) (flushed : Result Unit FlushFault) (deed : Deed) → FlushEnds base flushed deed
-    → failures deed.calls ≡ 0
+flushed_well : (read_only : Bool) (base : Base) (flushed : Result Unit FlushFault) (deed : Deed)
+    → LastFlushEnds read_only base flushed deed → failures deed.calls ≡ 0
     → (flush_status flushed ≡ 0) ⊎ ((flush_status flushed ≡ 12) ⊎ (flush_status flushed ≡ 11))
-flushed_well base (Ok done) deed ends none = inl refl
-flushed_well base (Err (flush.StoreFault status)) deed ends none =
+flushed_well true base flushed deed ends none = inl (ap flush_status ends.0)
+flushed_well false base (Ok done) deed ends none = inl refl
+flushed_well false base (Err (flush.StoreFault status)) deed ends none =
     absurd (cause_fails base status deed ends.1.cause none)
-flushed_well base (Err flush.Memory) deed ends none = inr (inl refl)
-flushed_well base (Err (flush.ClockStalled before asked after)) deed ends none = inr (inr refl)
+flushed_well false base (Err flush.Memory) deed ends none = inr (inl refl)
+flushed_well false base (Err (flush.ClockStalled before asked after)) deed ends none = inr (inr refl)
 
--- without any fault, and of an input that isn't refused and isn't too long, a run ends well or lacks memory, or its
+-- without any fault, and of an input of messages that isn't too long, a run ends well or lacks memory, or its
 -- clock stands still
-pub ended_well : (base : Base) (ended : SessionEnd) (flushed : Result Unit FlushFault) (deed : Deed)
-    (calls : List Call) (faults faults' : ℕ) {Read Written : Type 0} → FlushEnds base flushed deed
+pub ended_well : (read_only : Bool) (base : Base) (ended : SessionEnd) (flushed : Result Unit FlushFault) (deed : Deed)
+    (calls : List Call) (faults faults' : ℕ) {Read Written : Type 0} → LastFlushEnds read_only base flushed deed
     → (Rose faults faults' → ⊥) → Counts faults faults' (deed.calls ++ calls)
-    → (ended ≡ end.ReadFault → Read) → (ended ≡ end.WriteFault → Written) → (Read → ⊥) → (Written → ⊥)
-    → ended ≢ end.Refused → ended ≢ end.Spent → (run_status ended flushed ≡ 0)
+    → (ended ≡ end.Fault nbd.ReadFault → Read) → (ended ≡ end.Fault nbd.WriteFault → Written) → (Read → ⊥)
+    → (Written → ⊥) → (IsClientFault ended → ⊥) → (run_status ended flushed ≡ 0)
     ⊎ ((run_status ended flushed ≡ 12) ⊎ (run_status ended flushed ≡ 11))
-ended_well base ended flushed deed calls faults faults' {Read = Read} {Written = Written} ends quiet counts at_read
-    at_write read written refused spent =
-    by ended at_read at_write refused spent where
+ended_well read_only base ended flushed deed calls faults faults' {Read = Read} {Written = Written} ends quiet counts
+    at_read at_write read written sound =
+    by ended at_read at_write sound where
       none : failures deed.calls ≡ 0
       none = (sum_nothing (failures deed.calls) (failures calls)
           (sym (failures_join deed.calls calls) ∙ quiet_has_none faults faults' (deed.calls ++ calls) quiet counts)).0
 
-      by : (e : SessionEnd) → (e ≡ end.ReadFault → Read) → (e ≡ end.WriteFault → Written) → e ≢ end.Refused
-          → e ≢ end.Spent
+      by : (e : SessionEnd) → (e ≡ end.Fault nbd.ReadFault → Read) → (e ≡ end.Fault nbd.WriteFault → Written)
+          → (IsClientFault e → ⊥)
           → (run_status e flushed ≡ 0) ⊎ ((run_status e flushed ≡ 12) ⊎ (run_status e flushed ≡ 11))
-      by end.Disconnected at_read at_write refused spent = flushed_well base flushed deed ends none
-      by end.Ended at_read at_write refused spent = flushed_well base flushed deed ends none
-      by end.Refused at_read at_write refused spent = absurd (refused refl)
-      by end.ReadFault at_read at_write refused spent = absurd (read (at_read refl))
-      by end.WriteFault at_read at_write refused spent = absurd (written (at_write refl))
-      by end.Spent at_read at_write refused spent = absurd (spent refl)
+      by end.Disconnected at_read at_write sound = flushed_well read_only base flushed deed ends none
+      by end.Aborted at_read at_write sound = flushed_well read_only base flushed deed ends none
+      by end.Ended at_read at_write sound = flushed_well read_only base flushed deed ends none
+      by (end.NoSuchExport size) at_read at_write sound = absurd (sound tt)
+      by (end.Fault nbd.Ended) at_read at_write sound = absurd (sound tt)
+      by (end.Fault (nbd.Cut got)) at_read at_write sound = absurd (sound tt)
+      by (end.Fault (nbd.BadMagic magic)) at_read at_write sound = absurd (sound tt)
+      by (end.Fault (nbd.BadFlags flags)) at_read at_write sound = absurd (sound tt)
+      by (end.Fault (nbd.TooBig size)) at_read at_write sound = absurd (sound tt)
+      by (end.Fault nbd.ReadFault) at_read at_write sound = absurd (read (at_read refl))
+      by (end.Fault nbd.WriteFault) at_read at_write sound = absurd (written (at_write refl))
+      by end.Spent at_read at_write sound = absurd (sound tt)

@@ -1,5 +1,5 @@
 -- Over a kind store, with a kind clock and without faults, nothing fails but for want of memory.
-use Rattle.std.proofs.Common.{ℕ, ◌≡◌, ◌≢◌, ◌≤◌, ◌⊎◌, inl, inr, Bool, if◌then◌else◌, List, [], ◌∷◌, ◌++◌, length}
+use Rattle.std.proofs.Common.{ℕ, ◌≡◌, ◌≢◌, ◌≤◌, ◌⊎◌, inl, inr, Bool, true, false, if◌then◌else◌, List, [], ◌∷◌, ◌++◌, length}
 use Rattle.std.proofs.Common.{Option, Some, None, Result, Ok, Err, refl, sym, ◌∙◌, ap, subst, arith, ◌+◌}
 use Rattle.std.proofs.lemmas.Bool.{leb-true}
 use Rattle.std.specs.List.{AllByRecursion}
@@ -34,6 +34,7 @@ use Rattle.sb_crew.specs.declared.calls.FlushFault.TheVariants as flush
 use Rattle.sb_crew.specs.Outcomes.{Outcome, IsUntaken, AsksLate, IsStale, IsStalled, Stops, GoalEnds, FlushEnds}
 use Rattle.sb_crew.specs.Counts.{failures, Counts}
 use Rattle.sb_crew.specs.Joins.{failures_join}
+use Rattle.sb_nbd.specs.declared.end.NbdEnd.TheVariants as nbd
 use Rattle.sb_session.specs.declared.end.SessionEnd.{SessionEnd}
 use Rattle.sb_session.specs.declared.end.SessionEnd.TheVariants as end
 use Rattle.sb_session.specs.Streams.{Streams}
@@ -42,7 +43,8 @@ use Rattle.sb_session.specs.Answers.{AnswersBy, IsReplyTo, error_of}
 use Rattle.sb_session.specs.Transcripts.{Exchange, IsTranscript, deed_in}
 use Rattle.sb_session.specs.Sessions.{Course}
 use Rattle.s3backer.proofs.Causes.{sum_nothing, quiet_has_none, cause_fails}
-use Rattle.s3backer.specs.Headline.{ClockMoves, IsServed, AllServed, flush_status, run_status}
+use Rattle.s3backer.specs.Headline.{ClockMoves, IsServed, AllServed, flush_status, run_status, LastFlushEnds}
+use Rattle.s3backer.specs.Headline.{IsClientFault}
 
 -- what came before a sound history's newest entries is sound
 module _ (geometry : Geometry) (settings : Settings) (found : Found) (start : Start) (delays : Delays) where
@@ -147,7 +149,7 @@ never_stalled before asked after (entry ∷ entries) ticks older moves stalled =
     let reached = subst (λ (ts : List Tick). ClockMoves (ts ++ older)) stalled.1.1 moves in
     omega (arith, reached.0, stalled.1.2)
 
-module _ (base : Base) (start : Start) (delays : Delays) (law : StaleIsYoung)
+module _ (read_only : Bool) (base : Base) (start : Start) (delays : Delays) (law : StaleIsYoung)
     (young : delays.show ≤ base.settings.stale_limit) where
   -- a call none of whose requests failed lacked memory
   memory_alone : (goal : List Outcome) (deed older : Deed) (fault : CallFault)
@@ -172,14 +174,14 @@ module _ (base : Base) (start : Start) (delays : Delays) (law : StaleIsYoung)
   answer_served goal bytes deed older error body (Err fault) sound moves none ends reply =
       inr (reply.0 ∙ memory_alone goal deed older fault sound moves none ends)
 
-  either_served : (x : Exchange) → (x.error ≡ 0) ⊎ (x.error ≡ enomem) → IsServed base x
+  either_served : (x : Exchange) → (x.error ≡ 0) ⊎ (x.error ≡ enomem) → IsServed read_only base x
   either_served x (inl done) = inl done
   either_served x (inr lacking) = inr (inl lacking)
 
-  reply_served : (x : Exchange) (older : Deed) (refused : Option ℕ) → refusal base.geometry x.request.wanted ≡ refused
+  reply_served : (x : Exchange) (older : Deed) (refused : Option ℕ) → refusal read_only base.geometry x.request.wanted ≡ refused
       → IsSoundHistory base.geometry base.settings nothing_found start delays (x.deed.entries ++ older.entries)
       → ClockMoves (x.deed.ticks ++ older.ticks) → failures x.deed.calls ≡ 0
-      → AnswersBy refused base x.request x.error x.body x.deed → IsServed base x
+      → AnswersBy refused base x.request x.error x.body x.deed → IsServed read_only base x
   reply_served x older (Some code) is sound moves none answer = inr (inr (is ∙ ap (λ n. Some n) (sym answer.number)))
   reply_served x older None is sound moves none answer =
       either_served x (answer_served (goal_of base.geometry x.request answer.0)
@@ -188,13 +190,13 @@ module _ (base : Base) (start : Start) (delays : Delays) (law : StaleIsYoung)
 
   replies_served : (xs : List Exchange)
       → IsSoundHistory base.geometry base.settings nothing_found start delays (deed_in xs).entries
-      → ClockMoves (deed_in xs).ticks → failures (deed_in xs).calls ≡ 0 → IsTranscript base xs
-      → AllByRecursion (IsServed base) xs
+      → ClockMoves (deed_in xs).ticks → failures (deed_in xs).calls ≡ 0 → IsTranscript read_only base xs
+      → AllByRecursion (IsServed read_only base) xs
   replies_served [] sound moves none answered = tt
   replies_served (x ∷ xs) sound moves none answered =
       let parts = sum_nothing (failures x.deed.calls) (failures (deed_in xs).calls)
       (sym (failures_join x.deed.calls (deed_in xs).calls) ∙ none) in (
-        reply_served x (deed_in xs) (refusal base.geometry x.request.wanted) refl sound moves parts.0
+        reply_served x (deed_in xs) (refusal read_only base.geometry x.request.wanted) refl sound moves parts.0
             answered.0.answer,
         replies_served xs
             (older_is_sound base.geometry base.settings nothing_found start delays x.deed.entries
@@ -203,8 +205,8 @@ module _ (base : Base) (start : Start) (delays : Delays) (law : StaleIsYoung)
       )
 
   -- each reply of a session
-  pub session_served : {transmission : ℕ} {before after : Streams} {ended : SessionEnd} {deed : Deed}
-      (course : Course base transmission before after ended deed) (flush : Deed) (faults faults' : ℕ)
+  pub session_served : {before after : Streams} {ended : SessionEnd} {deed : Deed}
+      (course : Course read_only base before after ended deed) (flush : Deed) (faults faults' : ℕ)
       → IsSoundHistory base.geometry base.settings nothing_found start delays (flush.entries ++ deed.entries)
       → ClockMoves (flush.ticks ++ deed.ticks) → (Rose faults faults' → ⊥)
       → Counts faults faults' (flush.calls ++ deed.calls) → AllServed course
@@ -230,25 +232,38 @@ module _ (base : Base) (start : Start) (delays : Delays) (law : StaleIsYoung)
   flush_served (Err (flush.ClockStalled before asked after)) deed older moves none ends =
       absurd (never_stalled before asked after deed.entries deed.ticks older moves ends.1.cause.0)
 
+  -- the flush after a session
+  last_served : (writes_refused : Bool) (flushed : Result Unit FlushFault) (deed : Deed) (older : List Tick)
+      → ClockMoves (deed.ticks ++ older) → failures deed.calls ≡ 0 → LastFlushEnds writes_refused base flushed deed
+      → (flush_status flushed ≡ 0) ⊎ (flush_status flushed ≡ 12)
+  last_served true flushed deed older moves none ends = inl (ap flush_status ends.0)
+  last_served false flushed deed older moves none ends = flush_served flushed deed older moves none ends
+
   -- the end of a run
   pub end_served : (ended : SessionEnd) (flushed : Result Unit FlushFault) (deed : Deed) (calls : List Call)
-      (older : List Tick) (faults faults' : ℕ) {Read Written : Type 0} → FlushEnds base flushed deed
+      (older : List Tick) (faults faults' : ℕ) {Read Written : Type 0} → LastFlushEnds read_only base flushed deed
       → ClockMoves (deed.ticks ++ older) → (Rose faults faults' → ⊥) → Counts faults faults' (deed.calls ++ calls)
-      → (ended ≡ end.ReadFault → Read) → (ended ≡ end.WriteFault → Written) → (Read → ⊥) → (Written → ⊥)
-      → ended ≢ end.Refused → ended ≢ end.Spent
+      → (ended ≡ end.Fault nbd.ReadFault → Read) → (ended ≡ end.Fault nbd.WriteFault → Written) → (Read → ⊥)
+      → (Written → ⊥) → (IsClientFault ended → ⊥)
       → (run_status ended flushed ≡ 0) ⊎ (run_status ended flushed ≡ 12)
   end_served ended flushed deed calls older faults faults' {Read = Read} {Written = Written} ends moves quiet counts
-      at_read at_write read written refused spent =
-      by ended at_read at_write refused spent where
+      at_read at_write read written sound =
+      by ended at_read at_write sound where
         none : failures deed.calls ≡ 0
         none = (sum_nothing (failures deed.calls) (failures calls)
             (sym (failures_join deed.calls calls) ∙ quiet_has_none faults faults' (deed.calls ++ calls) quiet counts)).0
 
-        by : (e : SessionEnd) → (e ≡ end.ReadFault → Read) → (e ≡ end.WriteFault → Written) → e ≢ end.Refused
-            → e ≢ end.Spent → (run_status e flushed ≡ 0) ⊎ (run_status e flushed ≡ 12)
-        by end.Disconnected at_read at_write refused spent = flush_served flushed deed older moves none ends
-        by end.Ended at_read at_write refused spent = flush_served flushed deed older moves none ends
-        by end.Refused at_read at_write refused spent = absurd (refused refl)
-        by end.ReadFault at_read at_write refused spent = absurd (read (at_read refl))
-        by end.WriteFault at_read at_write refused spent = absurd (written (at_write refl))
-        by end.Spent at_read at_write refused spent = absurd (spent refl)
+        by : (e : SessionEnd) → (e ≡ end.Fault nbd.ReadFault → Read) → (e ≡ end.Fault nbd.WriteFault → Written)
+            → (IsClientFault e → ⊥) → (run_status e flushed ≡ 0) ⊎ (run_status e flushed ≡ 12)
+        by end.Disconnected at_read at_write sound = last_served read_only flushed deed older moves none ends
+        by end.Aborted at_read at_write sound = last_served read_only flushed deed older moves none ends
+        by end.Ended at_read at_write sound = last_served read_only flushed deed older moves none ends
+        by (end.NoSuchExport size) at_read at_write sound = absurd (sound tt)
+        by (end.Fault nbd.Ended) at_read at_write sound = absurd (sound tt)
+        by (end.Fault (nbd.Cut got)) at_read at_write sound = absurd (sound tt)
+        by (end.Fault (nbd.BadMagic magic)) at_read at_write sound = absurd (sound tt)
+        by (end.Fault (nbd.BadFlags flags)) at_read at_write sound = absurd (sound tt)
+        by (end.Fault (nbd.TooBig size)) at_read at_write sound = absurd (sound tt)
+        by (end.Fault nbd.ReadFault) at_read at_write sound = absurd (read (at_read refl))
+        by (end.Fault nbd.WriteFault) at_read at_write sound = absurd (written (at_write refl))
+        by end.Spent at_read at_write sound = absurd (sound tt)

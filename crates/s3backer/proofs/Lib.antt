@@ -1,4 +1,5 @@
 pub mod Causes
+pub mod Endings
 pub mod Sessions
 pub mod WordLemmas
 mod Completing

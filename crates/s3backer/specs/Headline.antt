@@ -1,12 +1,12 @@
 -- What a run of the program promises, of one list of entries and one list of calls. Lists are newest first.
-use Rattle.std.specs.Prelude.{ℕ, ◌≡◌, ◌≢◌, ◌≤◌, ◌+◌, ◌⊎◌, List, [], ◌∷◌, ◌++◌, Option, Some, None, IfSome, Result, Ok, Err}
+use Rattle.std.specs.Prelude.{ℕ, ◌≡◌, ◌≢◌, ◌≤◌, ◌+◌, ◌⊎◌, Bool, true, false, List, [], ◌∷◌, ◌++◌, Option, Some, None, IfSome, Result, Ok, Err}
 use Rattle.std.specs.Prelude.{codes, decimal}
 use Rattle.std.specs.List.{AllByRecursion}
 use Rattle.std.proofs.Common.{inl, inr}
 use Rattle.sb_base.specs.declared.geometry.Geometry.{Geometry}
 use Rattle.sb_base.specs.declared.entry.Entry.{Entry}
 use Rattle.sb_world.specs.Told.{Gains, Rose}
-use Rattle.sb_world.specs.Streams.{Holds}
+use Rattle.sb_world.specs.Streams.{Holds, IsAtEnd}
 use Rattle.sb_world.specs.Benches.{BenchParts, with_links, shut_bench}
 use Rattle.sb_world.specs.Worlds.{WorldView}
 use Rattle.sb_world.specs.declared.clock.Tick.{Tick}
@@ -32,16 +32,17 @@ use Rattle.sb_crew.specs.declared.calls.CallFault.{CallFault}
 use Rattle.sb_crew.specs.declared.calls.CallFault.TheVariants.{StoreFault, Memory, StaleRead, ClockStalled}
 use Rattle.sb_crew.specs.declared.calls.FlushFault.{FlushFault}
 use Rattle.sb_crew.specs.declared.calls.FlushFault.TheVariants as flush
-use Rattle.sb_crew.specs.Outcomes.{Outcome, outcomes_of, flush_of, FlushEnds, AsksOnly, HasCause}
+use Rattle.sb_crew.specs.Outcomes.{Outcome, outcomes_of, flush_of, Does, FlushEnds, AsksOnly, HasCause}
 use Rattle.sb_crew.specs.Counts.{Counts}
 use Rattle.sb_crew.specs.Runs.{only_caller, sizes_of}
-use Rattle.sb_crew.specs.Scenes.{Deed, followed}
+use Rattle.sb_crew.specs.Scenes.{Deed, nothing, followed}
+use Rattle.sb_nbd.specs.declared.end.NbdEnd.{NbdEnd}
+use Rattle.sb_nbd.specs.declared.end.NbdEnd.TheVariants as nbd
 use Rattle.sb_session.specs.declared.end.SessionEnd.{SessionEnd}
 use Rattle.sb_session.specs.declared.end.SessionEnd.TheVariants as end
 use Rattle.sb_session.specs.Streams.{Streams}
 use Rattle.sb_session.specs.Goals.{refusal}
 use Rattle.sb_session.specs.Transcripts.{Exchange}
-use Rattle.sb_session.specs.Handshakes.{transmission_flags}
 use Rattle.sb_session.specs.Sessions.{Course}
 use Rattle.s3backer.specs.Plans.{PlanParts, naming_of, plan_base, default_settings}
 use Rattle.s3backer.specs.Views.{Telling, Gear, gear_in, View, view_of}
@@ -70,17 +71,53 @@ flush_line (Err (flush.ClockStalled before asked after)) = Some (codes "s3backer
 -- the status of a session's end and the flush after it: that of the first fault
 abbrev pub run_status : SessionEnd → Result Unit FlushFault → ℕ
 run_status end.Disconnected flushed = flush_status flushed
+run_status end.Aborted flushed = flush_status flushed
 run_status end.Ended flushed = flush_status flushed
 run_status other flushed = 7
+
+-- the line that tells a fault of a session. None ends as a fault where its input has ended between messages.
+abbrev pub fault_line : NbdEnd → List ℕ
+fault_line nbd.Ended = codes "s3backer: session: cut\n"
+fault_line (nbd.Cut got) = codes "s3backer: session: cut\n"
+fault_line (nbd.BadMagic magic) = codes "s3backer: session: magic\n"
+fault_line (nbd.BadFlags flags) = codes "s3backer: session: flags\n"
+fault_line (nbd.TooBig size) = codes "s3backer: session: too big\n"
+fault_line nbd.ReadFault = codes "s3backer: session: read fault\n"
+fault_line nbd.WriteFault = codes "s3backer: session: write fault\n"
 
 -- the line that tells the first fault
 abbrev pub run_line : SessionEnd → Result Unit FlushFault → Option (List ℕ)
 run_line end.Disconnected flushed = flush_line flushed
+run_line end.Aborted flushed = flush_line flushed
 run_line end.Ended flushed = flush_line flushed
-run_line end.Refused flushed = Some (codes "s3backer: session: refused\n")
-run_line end.ReadFault flushed = Some (codes "s3backer: session: read fault\n")
-run_line end.WriteFault flushed = Some (codes "s3backer: session: write fault\n")
+run_line (end.NoSuchExport size) flushed = Some (codes "s3backer: session: no such export\n")
+run_line (end.Fault fault) flushed = Some (fault_line fault)
 run_line end.Spent flushed = Some (codes "s3backer: session: spent\n")
+
+-- the flush after a session, and how it ended. A read-only disk isn't flushed.
+abbrev pub LastFlushEnds : Bool → Base → Result Unit FlushFault → Deed → Type 0
+LastFlushEnds true base flushed deed = (flushed ≡ Ok tt) × (deed ≡ nothing)
+LastFlushEnds false base flushed deed = FlushEnds base flushed deed
+
+-- what the flush after a session did
+abbrev pub LastFlushDoes : Bool → Base → (Deed → Type 0) → Result Unit FlushFault → Type 0
+LastFlushDoes read_only base did flushed = Does did [] (LastFlushEnds read_only base flushed)
+
+-- the client's bytes ended the session so: they are no message, name another export, or are too many messages
+abbrev pub IsClientFault : SessionEnd → Type 0
+IsClientFault end.Disconnected = ⊥
+IsClientFault end.Aborted = ⊥
+IsClientFault end.Ended = ⊥
+IsClientFault (end.Fault nbd.ReadFault) = ⊥
+IsClientFault (end.Fault nbd.WriteFault) = ⊥
+IsClientFault other = Unit {0}
+
+-- the input was read to its end between two messages, where nothing is left, or to DISC or ABORT
+abbrev pub IsWhole : SessionEnd → Option (List ℕ) → Type 0
+IsWhole end.Disconnected left = Unit {0}
+IsWhole end.Aborted left = Unit {0}
+IsWhole end.Ended left = IsAtEnd left
+IsWhole other left = ⊥
 
 -- the last flush began after every write, and is done
 abbrev pub IsSaved : List Entry → Type 0
@@ -139,8 +176,8 @@ pub record FailsByTime (base : Base) (deed : Deed) : Type 0 where
   pub cause : HasCause base fault deed
 
 -- no reply of a session has the error of a store that failed, but for a stale read or a clock that stands still
-abbrev pub NoneFailed : {base : Base} {transmission : ℕ} {before after : Streams} {ended : SessionEnd} {deed : Deed}
-    → Course base transmission before after ended deed → Type 0
+abbrev pub NoneFailed : {read_only : Bool} {base : Base} {before after : Streams} {ended : SessionEnd} {deed : Deed}
+    → Course read_only base before after ended deed → Type 0
 NoneFailed (inl unserved) = Unit {0}
 NoneFailed {base} (inr served) = AllByRecursion (λ x. (x.error ≢ eio) ⊎ FailsByTime base x.deed) served.transcript
 
@@ -159,15 +196,15 @@ pub record IsKind (plan : PlanParts) (start : Start) (delays : Delays) (deed : D
   pub moves : ClockMoves deed.ticks
 
 -- a reply has no error, that of a refusal by the table, or that of want of memory
-abbrev pub IsServed : Base → Exchange → Type 0
-IsServed base x =
-    (x.error ≡ 0) ⊎ ((x.error ≡ enomem) ⊎ (refusal base.geometry x.request.wanted ≡ Some x.error))
+abbrev pub IsServed : Bool → Base → Exchange → Type 0
+IsServed read_only base x =
+    (x.error ≡ 0) ⊎ ((x.error ≡ enomem) ⊎ (refusal read_only base.geometry x.request.wanted ≡ Some x.error))
 
 -- so each reply of a session
-abbrev pub AllServed : {base : Base} {transmission : ℕ} {before after : Streams} {ended : SessionEnd} {deed : Deed}
-    → Course base transmission before after ended deed → Type 0
+abbrev pub AllServed : {read_only : Bool} {base : Base} {before after : Streams} {ended : SessionEnd} {deed : Deed}
+    → Course read_only base before after ended deed → Type 0
 AllServed (inl unserved) = Unit {0}
-AllServed {base} (inr served) = AllByRecursion (IsServed base) served.transcript
+AllServed {read_only} {base} (inr served) = AllByRecursion (IsServed read_only base) served.transcript
 
 -- a session was served and the disk flushed then: the history of both, the session's course over the bytes, how it
 -- and the flush ended, and what was told of that
@@ -176,30 +213,32 @@ pub record ServesSession (plan : PlanParts) (before after : View) (status : ℕ)
   pub flush : Deed
   pub history : IsHistory plan before after (followed session flush)
   pub ended : SessionEnd
-  pub course : Course (plan_base plan) transmission_flags before.streams after.streams ended session
-  pub read_cause : ended ≡ end.ReadFault → Rose before.read_faults after.read_faults
-  pub write_cause : ended ≡ end.WriteFault → Rose before.write_faults after.write_faults
+  pub course : Course plan.read_only (plan_base plan) before.streams after.streams ended session
+  pub read_cause : ended ≡ end.Fault nbd.ReadFault → Rose before.read_faults after.read_faults
+  pub write_cause : ended ≡ end.Fault nbd.WriteFault → Rose before.write_faults after.write_faults
   pub link_counts : Counts before.link_faults after.link_faults (flush.calls ++ session.calls)
   pub flushed : Result Unit FlushFault
-  pub flushes : FlushEnds (plan_base plan) flushed flush
+  pub flushes : LastFlushEnds plan.read_only (plan_base plan) flushed flush
   pub flush_asks : AsksOnly [] flush.entries
   pub status_is : status ≡ run_status ended flushed
   pub complains : ComplainsOf (run_line ended flushed) before.errors after.errors before.error_faults
       after.error_faults
-  pub saved : status ≡ 0 → IsSaved (flush.entries ++ session.entries)
+  -- status 0 says that the input was read whole, and that all that was written is kept
+  pub read_whole : status ≡ 0 → IsWhole ended after.streams.left
+  pub saved : status ≡ 0 → plan.read_only ≡ false → IsSaved (flush.entries ++ session.entries)
   -- without a fault of the store no reply tells one
   pub no_failed_reply : (Rose before.link_faults after.link_faults → ⊥) → NoneFailed course
-  -- without any fault, and of an input that isn't refused and isn't too long, the run ends well or lacks memory, or
+  -- without any fault, and of an input of messages that isn't too long, the run ends well or lacks memory, or
   -- its clock stands still
   pub ends_well : (Rose before.link_faults after.link_faults → ⊥) → (Rose before.read_faults after.read_faults → ⊥)
-      → (Rose before.write_faults after.write_faults → ⊥) → ended ≢ end.Refused → ended ≢ end.Spent
+      → (Rose before.write_faults after.write_faults → ⊥) → (IsClientFault ended → ⊥)
       → (status ≡ 0) ⊎ ((status ≡ 12) ⊎ (status ≡ 11))
   -- and where store and clock are kind each reply is one without error, a refusal or want of memory, and so is the end
   pub all_served : (start : Start) (delays : Delays) → IsKind plan start delays (followed session flush)
       → (Rose before.link_faults after.link_faults → ⊥) → AllServed course
   pub ends_served : (start : Start) (delays : Delays) → IsKind plan start delays (followed session flush)
       → (Rose before.link_faults after.link_faults → ⊥) → (Rose before.read_faults after.read_faults → ⊥)
-      → (Rose before.write_faults after.write_faults → ⊥) → ended ≢ end.Refused → ended ≢ end.Spent
+      → (Rose before.write_faults after.write_faults → ⊥) → (IsClientFault ended → ⊥)
       → (status ≡ 0) ⊎ (status ≡ 12)
 
 -- the same gear, but for its error sink

@@ -13,6 +13,7 @@ pub record PlanParts : Type 0 where
   pub prefix : List ℕ
   pub hashed : Bool
   pub geometry : Geometry
+  pub read_only : Bool
 
 -- the names of its objects, and the sizes that the first one carries
 abbrev pub naming_of : PlanParts → Naming

@@ -80,10 +80,10 @@ abbrev pub sized : List ℕ → Result ℕ SizeFault → Result Geometry Usage
 sized word (Ok bytes) = shaped (geometry_of bytes 4096)
 sized word (Err fault) = Err (usage.BadSize (codes "--size") word)
 
--- the plan of a disk over a directory
+-- the plan of a disk over a directory, to be read and written
 abbrev pub directory_plan : Geometry → List ℕ → Bool → List ℕ → PlanParts
 directory_plan geometry prefix hashed directory =
-    record { store = store.Dir directory; prefix = prefix; hashed = hashed; geometry = geometry }
+    record { store = store.Dir directory; prefix = prefix; hashed = hashed; geometry = geometry; read_only = false }
 
 -- the plan of a geometry and of names, where neither is refused
 abbrev pub planned : Result Geometry Usage → Result Unit Usage → Given → Result PlanParts Usage

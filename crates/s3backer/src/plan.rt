@@ -13,6 +13,8 @@ pub struct Plan {
     /// Whether a hash stands before a block's number.
     pub hashed: bool,
     pub geometry: Geometry,
+    /// Whether each write is refused. No word asks for it yet.
+    pub read_only: bool,
 }
 
 impl Model for Plan {
@@ -26,5 +28,6 @@ impl Model for Plan {
       prefix = string_bytes p.prefix;
       hashed = p.hashed;
       geometry = p.geometry;
+      read_only = p.read_only;
     } };
 }

@@ -3,20 +3,24 @@
 ghost use Rattle.std.specs.Prelude.{◌≡◌, ◌≢◌, length};
 ghost use Rattle.sb_base.specs.Shapes.{IsSound};
 
+use crate::plan::Plan;
 use crate::rehearsal::{Rehearsal, rehearse};
 use crate::settings::SETTINGS;
-use sb_base::{Geometry, Part, Settings, Text};
+use crate::top::run_single;
+use sb_base::{Geometry, Part, Settings, StorePlan, Text};
 use sb_core::Core;
 use sb_crew::{Alone, Calls, Desk, Names};
-use sb_fakes::{HandClock, MemoryConn, PlainStore, TimedStore};
-use sb_world::{Link, Meta, NoTape};
+use sb_fakes::{HandClock, MemoryConn, MemoryWorld, PlainStore, TimedStore};
+use sb_world::{Bench, Link, Meta, NoTape};
 use std::alloc::{AllocError, Global};
 use std::test::Fail;
+
+const FLAGS: &[u8] = b"\x00\x00\x00\x03";
 
 pub(crate) const OPENING: &[u8] = b"\x00\x00\x00\x03IHAVEOPT\x00\x00\x00\x01\x00\x00\x00\x00";
 
 pub(crate) const HANDSHAKE: &[u8] =
-    b"NBDMAGICIHAVEOPT\x00\x03\x00\x00\x00\x00\x00\x01\x00\x00\x00\x05";
+    b"NBDMAGICIHAVEOPT\x00\x03\x00\x00\x00\x00\x00\x01\x00\x00\x00\x0d";
 
 pub(crate) const DISC: &[u8] =
     b"\x25\x60\x95\x13\x00\x00\x00\x02\x00\x00\x00\x00\x00\x00\x00\x00\x00\x00\x00\x00\x00\x00\x00\x00\x00\x00\x00\x00";
@@ -166,13 +170,87 @@ fn a_failed_get_is_eio_and_the_session_goes_on(rt: HostRuntime) -> Result<(), Fa
     Ok(())
 }
 
+/// Whether a session of these pieces ends with this status and this line.
+fn ends_so(alloc: Global, pieces: &[&[u8]], status: u8, line: &[u8]) -> Result<bool, AllocError> {
+    let done = session(alloc, PlainStore::new(alloc), pieces, 4096)?;
+    Ok(done.status == status && errors(&done) == line)
+}
+
 #[test]
-fn a_cut_request_is_refused(rt: HostRuntime) -> Result<(), Fail> {
-    let store = PlainStore::new(rt.alloc());
-    let done = session(rt.alloc(), store, &[OPENING, &READ_512[..10]], 4096)?;
-    assert_eq!(rt; done.status, 7);
-    assert_eq!(rt; output(&done), HANDSHAKE);
-    assert_eq!(rt; errors(&done), b"s3backer: session: refused\n".as_slice());
+fn each_end_of_a_session_has_its_status_and_its_line(rt: HostRuntime) -> Result<(), Fail> {
+    let rows: [(&[&[u8]], u8, &[u8]); 8] = [
+        (&[OPENING], 0, b""),
+        (
+            &[FLAGS, b"IHAVEOPT\x00\x00\x00\x02\x00\x00\x00\x00"],
+            0,
+            b"",
+        ),
+        (
+            &[OPENING, b"\x25\x60\x95\x14"],
+            7,
+            b"s3backer: session: magic\n",
+        ),
+        (
+            &[OPENING, b"\x25\x60\x95\x13\x00\x00\x00\x00\x00\x00"],
+            7,
+            b"s3backer: session: cut\n",
+        ),
+        (&[b"\x00\x00\x00\x04"], 7, b"s3backer: session: flags\n"),
+        (
+            &[FLAGS, b"IHAVEOPT\x00\x00\x00\x09\x00\x01\x00\x01"],
+            7,
+            b"s3backer: session: too big\n",
+        ),
+        (
+            &[FLAGS, b"IHAVEOPT\x00\x00\x00\x01\x00\x00\x00\x01a"],
+            7,
+            b"s3backer: session: no such export\n",
+        ),
+        (&[FLAGS, b"IHAVEOPX"], 7, b"s3backer: session: magic\n"),
+    ];
+    for (pieces, status, line) in rows {
+        assert!(rt; ends_so(rt.alloc(), pieces, status, line)?);
+    }
+    Ok(())
+}
+
+/// A WRITE of one byte with the cookie 4.
+const WRITE_4: &[u8] =
+    b"\x25\x60\x95\x13\x00\x00\x00\x01\x00\x00\x00\x00\x00\x00\x00\x04\x00\x00\x00\x00\x00\x00\x00\x00\x00\x00\x00\x01a";
+
+/// Its reply on a read-only disk.
+const EPERM_4: &[u8] = b"\x67\x44\x66\x98\x00\x00\x00\x01\x00\x00\x00\x00\x00\x00\x00\x04";
+
+#[test]
+fn a_read_only_disk_refuses_writes(rt: HostRuntime) -> Result<(), Fail> {
+    let alloc = rt.alloc();
+    let plan = Plan {
+        store: StorePlan::Dir {
+            path: Text::of(alloc, b"disk")?,
+        },
+        prefix: String::new(alloc),
+        hashed: false,
+        geometry: Geometry::make(65_536, 4096)?,
+        read_only: true,
+    };
+    let bench = Bench {
+        links: Vec::from_array(alloc, [failing_store(alloc, Vec::new(alloc))])?,
+        clock: HandClock::new(alloc, 1000, 0, false),
+        input: MemoryConn::source(
+            joined(alloc, &[OPENING, WRITE_4, DISC])?,
+            4096,
+            Vec::new(alloc),
+        ),
+        output: MemoryConn::sink(alloc, Vec::new(alloc)),
+        errors: MemoryConn::sink(alloc, Vec::new(alloc)),
+    };
+    let (status, _tape, bench) = run_single::<MemoryWorld<TimedStore>, NoTape>(
+        alloc, &plan, bench, NoTape,
+    );
+    assert_eq!(rt; status, 0);
+    let greeting = b"NBDMAGICIHAVEOPT\x00\x03\x00\x00\x00\x00\x00\x01\x00\x00\x00\x0f";
+    let wanted = joined(alloc, &[greeting.as_slice(), EPERM_4])?;
+    assert_eq!(rt; bench.output.bytes(), wanted.bytes());
     Ok(())
 }
 

@@ -17,6 +17,8 @@ ghost use Rattle.s3backer.specs.Headline.{
   run_line,
   flush_line,
   store_fault_line,
+  fault_line,
+  LastFlushDoes,
   ComplainsOf,
   Complains,
   ServesSession,
@@ -34,6 +36,7 @@ use sb_base::Geometry;
 use sb_core::Core;
 use sb_crew::{Alone, Calls, Desk, DeskRefused, FlushFault, Names};
 use sb_laws::{sound_flushes, sound_is_legal, sound_survives_crash, stale_is_young};
+use sb_nbd::NbdEnd;
 use sb_session::{Buffer, SessionEnd, serve_alone};
 use sb_world::{Bench, Clock, Link, MakeFault, Meta, Sink, Source, Tape, World};
 use std::alloc::{AllocError, Global};
@@ -62,14 +65,13 @@ fn status_of(end: SessionEnd, flushed: Result<(), FlushFault>) -> u8
     ensures { result ≡ run_status end flushed }
 {
     match end {
-        SessionEnd::Disconnected | SessionEnd::Ended => match flushed {
+        SessionEnd::Disconnected | SessionEnd::Aborted | SessionEnd::Ended => match flushed {
             Ok(()) => 0,
             Err(FlushFault::StoreFault { status: _ }) => 3,
             Err(FlushFault::ClockStalled { .. }) => 11,
             Err(FlushFault::Memory) => 12,
         },
-        SessionEnd::Refused | SessionEnd::ReadFault | SessionEnd::WriteFault | SessionEnd::Spent =>
-            7,
+        SessionEnd::NoSuchExport(_) | SessionEnd::Fault(_) | SessionEnd::Spent => 7,
     }
 }
 
@@ -79,11 +81,28 @@ fn complain_of<S: Sink>(errors: &mut S, end: SessionEnd, flushed: Result<(), Flu
         (S.faults errors.new) }
 {
     match end {
-        SessionEnd::Disconnected | SessionEnd::Ended => complain_of_flush(errors, flushed),
-        SessionEnd::Refused => complain(errors, b"s3backer: session: refused\n"),
-        SessionEnd::ReadFault => complain(errors, b"s3backer: session: read fault\n"),
-        SessionEnd::WriteFault => complain(errors, b"s3backer: session: write fault\n"),
+        SessionEnd::Disconnected | SessionEnd::Aborted | SessionEnd::Ended => {
+            complain_of_flush(errors, flushed)
+        }
+        SessionEnd::NoSuchExport(_) => complain(errors, b"s3backer: session: no such export\n"),
+        SessionEnd::Fault(fault) => complain_of_fault(errors, fault),
         SessionEnd::Spent => complain(errors, b"s3backer: session: spent\n"),
+    }
+}
+
+/// Writes the line of a session's fault.
+fn complain_of_fault<S: Sink>(errors: &mut S, fault: NbdEnd)
+    ensures { Complains (S.held errors.old) (S.held errors.new) (S.faults errors.old) (S.faults errors.new)
+        (fault_line fault) }
+{
+    match fault {
+        NbdEnd::Ended => complain(errors, b"s3backer: session: cut\n"),
+        NbdEnd::Cut { .. } => complain(errors, b"s3backer: session: cut\n"),
+        NbdEnd::BadMagic(_) => complain(errors, b"s3backer: session: magic\n"),
+        NbdEnd::BadFlags(_) => complain(errors, b"s3backer: session: flags\n"),
+        NbdEnd::TooBig { .. } => complain(errors, b"s3backer: session: too big\n"),
+        NbdEnd::ReadFault => complain(errors, b"s3backer: session: read fault\n"),
+        NbdEnd::WriteFault => complain(errors, b"s3backer: session: write fault\n"),
     }
 }
 
@@ -144,7 +163,16 @@ fn make(alloc: Global, plan: &Plan) -> Result<(Core, Buffer, Names), AllocError>
     Ok((core, buffer, names))
 }
 
-/// Serves a session over a new disk, and then flushes it.
+/// Flushes a disk after its session, unless it is read-only.
+fn flush_last<K, D: Calls<K>>(disk: &mut D, desk: &mut K, read_only: bool) -> Result<(), FlushFault>
+    requires { D.ready disk.old desk.old }
+    ensures ready { D.ready disk.new desk.new }
+    ensures did { LastFlushDoes read_only (D.base disk.old) (D.did disk.old desk.old disk.new desk.new) result }
+{
+    if read_only { Ok(()) } else { disk.flush(desk) }
+}
+
+/// Serves a session over a new disk, and then flushes it, unless it is read-only.
 fn serve_disk<L: Link, C: Clock, R: Source, S: Sink, T: Tape>(
     plan: &Plan,
     core: Core,
@@ -170,9 +198,10 @@ fn serve_disk<L: Link, C: Clock, R: Source, S: Sink, T: Tape>(
     sound_flushes();
     sound_survives_crash();
     stale_is_young();
+    let read_only = plan.read_only;
     let mut disk = Alone::new(core, names, tape);
-    let end = serve_alone(&mut disk, &mut desk, &mut buffer, input, output);
-    let flushed = disk.flush(&mut desk);
+    let end = serve_alone(&mut disk, &mut desk, read_only, &mut buffer, input, output);
+    let flushed = flush_last(&mut disk, &mut desk, read_only);
     complain_of(errors, end, flushed);
     let (_core, tape) = disk.finish();
     let (link, clock) = desk.into_parts();
@@ -290,7 +319,8 @@ where
 
 /// Runs the program on these words in a world, with its history on the tape.
 ///
-/// The status is 0 where the session ended at DISC or between two messages and the store has all that was written, 2
+/// The status is 0 where the session ended at DISC, at ABORT or between two messages and the store has all that was
+/// written, 2
 /// where the words aren't taken, 3 where the store can't be reached or the last flush failed, 7 where the session ended
 /// otherwise, 11 where the clock stood still at the last flush, and 12 for want of memory. A status other than 0 has
 /// its line on the bench's error sink, or is said where there is no bench.

@@ -194,6 +194,7 @@ fn directory_plan(
         prefix: String::from_str(alloc, prefix)?,
         hashed,
         geometry,
+        read_only: false,
     })
 }
 

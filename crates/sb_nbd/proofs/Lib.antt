@@ -3,3 +3,4 @@ pub mod RequestParts
 pub mod OptionParts
 pub mod OneForm
 pub mod Cuts
+pub mod InfoParts

@@ -16,7 +16,7 @@ split_same p q x y len e = (
   sym (drop_at p x (length p) refl) ∙ ap (drop (length p)) e ∙ drop_at q y (length p) (sym len),
 )
 
-same_2 : (m n : ℕ) → m < 2 ^ 16 → n < 2 ^ 16 → to_be_bytes w16 m ≡ to_be_bytes w16 n → m ≡ n
+pub same_2 : (m n : ℕ) → m < 2 ^ 16 → n < 2 ^ 16 → to_be_bytes w16 m ≡ to_be_bytes w16 n → m ≡ n
 same_2 m n fm fn e = sym (from_be_bytes-to_be_bytes_2 m fm) ∙ ap (from_be_bytes w16) e
     ∙ from_be_bytes-to_be_bytes_2 n fn
 
@@ -98,21 +98,29 @@ length-head_same : (a b : Asked) → length (options.head_bytes a) ≡ length (o
 unfolding options.head_bytes
 length-head_same a b = refl
 
+-- an option's bytes and others, grouped from the left
+pub regrouped_option : (o : options.Option) (z : List ℕ)
+    → options.option_bytes o ++ z ≡ options.option_magic_bytes ++ (options.head_bytes o.asked ++ (o.payload ++ z))
+regrouped_option o z = append_assoc options.option_magic_bytes (options.head_bytes o.asked ++ o.payload) z
+    ∙ ap (λ bytes. options.option_magic_bytes ++ bytes) (append_assoc (options.head_bytes o.asked) o.payload z)
+
+-- an option stands where this head does
+pub same_asked_first : (o : options.Option) (a : Asked) (x y : List ℕ) → options.FitsHead a → options.IsOption o
+    → options.option_bytes o ++ x ≡ options.option_magic_bytes ++ (options.head_bytes a ++ y)
+    → (o.asked ≡ a) × (o.payload ++ x ≡ y)
+same_asked_first o a x y fits is e =
+    let behind = append_cancel_left options.option_magic_bytes _ _ (sym (regrouped_option o x) ∙ e) in
+    let heads = split_same (options.head_bytes o.asked) (options.head_bytes a) (o.payload ++ x) y
+    (length-head_same o.asked a) behind in
+    (same_head o.asked a is.fits fits heads.0, heads.1)
+
 pub one_option : (p q : options.Option) (x y : List ℕ) → options.IsOption p → options.IsOption q
     → options.option_bytes p ++ x ≡ options.option_bytes q ++ y → (p ≡ q) × (x ≡ y)
 one_option p q x y is_p is_q e =
-    let grouped : (o : options.Option) (z : List ℕ)
-    → options.option_bytes o ++ z ≡ options.option_magic_bytes ++ (options.head_bytes
-    o.asked ++ (o.payload ++ z)) =
-    λ o z. append_assoc options.option_magic_bytes (options.head_bytes o.asked ++ o.payload) z
-    ∙ ap (λ bytes. options.option_magic_bytes ++ bytes) (append_assoc (options.head_bytes o.asked) o.payload z) in
-    let behind = append_cancel_left options.option_magic_bytes _ _ (sym (grouped p x) ∙ e ∙ grouped q y) in
-    let heads = split_same (options.head_bytes p.asked) (options.head_bytes q.asked) (p.payload ++ x)
-    (q.payload ++ y) (length-head_same p.asked q.asked) behind in
-    let asked = same_head p.asked q.asked is_p.fits is_q.fits heads.0 in
+    let first = same_asked_first p q.asked x (q.payload ++ y) is_q.fits is_p (e ∙ regrouped_option q y) in
     let payload = split_same p.payload q.payload x y
-    (is_p.payload ∙ ap (λ (a : Asked). a.length) asked ∙ sym is_q.payload) heads.1 in (
-      ap (λ a. record { asked = a; payload = p.payload }) asked
+    (is_p.payload ∙ ap (λ (a : Asked). a.length) first.0 ∙ sym is_q.payload) first.1 in (
+      ap (λ a. record { asked = a; payload = p.payload }) first.0
           ∙ ap (λ p. record { asked = q.asked; payload = p }) payload.0,
       payload.1,
     )

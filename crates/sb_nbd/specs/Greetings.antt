@@ -1,5 +1,5 @@
 -- The handshake's other messages as bytes (NBD protocol, "Newstyle negotiation").
-use Rattle.std.specs.Prelude.{ℕ, ◌≡◌, ◌≤◌, ◌<◌, ◌^◌, List, [], ◌∷◌, ◌++◌, length, Bool, if◌then◌else◌, replicate}
+use Rattle.std.specs.Prelude.{ℕ, ◌≡◌, ◌≤◌, ◌<◌, ◌^◌, nat_lt, List, [], ◌∷◌, ◌++◌, length, Bool, if◌then◌else◌, replicate}
 use Rattle.std.specs.Prelude.{Option, Result, Ok, Err}
 use Rattle.std.specs.Int.{w16, w32, w64, to_be_bytes}
 use Rattle.sb_world.specs.Streams.{Takes, IsAtEnd}
@@ -35,3 +35,7 @@ padding zeroes = if zeroes then replicate 124 0 else []
 -- the answer to EXPORT_NAME
 abbrev pub export_bytes : ℕ → ℕ → Bool → List ℕ
 export_bytes size flags zeroes = export_head size flags ++ padding zeroes
+
+-- a client whose flags, at most 3, lack bit 1 wants the zeros
+abbrev pub wants_zeroes : ℕ → Bool
+wants_zeroes flags = nat_lt flags 2

@@ -5,4 +5,7 @@ pub mod RequestReading
 pub mod Options
 pub mod OptionReading
 pub mod Greetings
+pub mod InfoRequests
+pub mod OptionReplies
+pub mod OptionAnswers
 pub mod Replies

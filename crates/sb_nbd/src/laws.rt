@@ -6,6 +6,8 @@ ghost use Rattle.sb_nbd.specs.Numbers.{
   write_type,
   disc_type,
   flush_type,
+  fua,
+  eperm,
   eio,
   enomem,
   einval,
@@ -16,16 +18,18 @@ ghost use Rattle.sb_nbd.specs.Numbers.{
 ghost use Rattle.sb_nbd.specs.Requests.{Request, IsRequest, request_bytes};
 ghost use Rattle.sb_nbd.specs.RequestReading.{IsCutRequest};
 ghost use Rattle.sb_nbd.specs.Options.{Option, IsOption, option_bytes};
+ghost use Rattle.sb_nbd.specs.OptionReading.{IsCutOption};
 
 use crate::option::EXPORT_NAME;
-use crate::reply::{EINVAL, EIO, ENOMEM, ENOSPC};
+use crate::reply::{EINVAL, EIO, ENOMEM, ENOSPC, EPERM};
 use crate::request::MAX_PAYLOAD;
-use crate::wanted::{DISC, FLUSH, READ, WRITE};
+use crate::wanted::{DISC, FLUSH, FUA, READ, WRITE};
 
 /// The constants that callers name are the numbers of the definitions.
 pub fn constants_are_numbers()
     ensures types { (READ ≡ read_type) × (WRITE ≡ write_type) × (DISC ≡ disc_type) × (FLUSH ≡ flush_type) }
-    ensures errors { (EIO ≡ eio) × (ENOMEM ≡ enomem) × (EINVAL ≡ einval) × (ENOSPC ≡ enospc) }
+    ensures flags { FUA ≡ fua }
+    ensures errors { (EPERM ≡ eperm) × (EIO ≡ eio) × (ENOMEM ≡ enomem) × (EINVAL ≡ einval) × (ENOSPC ≡ enospc) }
     ensures option { EXPORT_NAME ≡ export_name }
     ensures payload { MAX_PAYLOAD ≡ max_payload }
 {}
@@ -45,4 +49,9 @@ pub fn no_cut_request()
 pub fn one_option()
     ensures { (p q : Option) (x y : List ℕ) → IsOption p → IsOption q
         → option_bytes p ++ x ≡ option_bytes q ++ y → (p ≡ q) × (x ≡ y) }
+{}
+
+/// A cut option is no whole option, and begins with none.
+pub fn no_cut_option()
+    ensures { (o : Option) (x : List ℕ) → IsOption o → IsCutOption (option_bytes o ++ x) → ⊥ }
 {}

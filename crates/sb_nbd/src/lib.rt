@@ -4,23 +4,33 @@
 //! wrong magic as soon as the magic's own bytes have come.
 #![tactic(auto)]
 
+mod answer;
 mod end;
+mod export;
 mod filling;
 mod greeting;
+mod info;
 mod laws;
 mod option;
+mod option_reply;
 mod reply;
 mod request;
 mod sending;
 mod wanted;
 
+pub use answer::{OptionAnswer, answer_to, begins_transmission, write_answer};
 pub use end::NbdEnd;
+pub use export::Export;
 pub use greeting::{MAX_FLAGS, read_flags, write_export, write_greeting};
-pub use laws::{constants_are_numbers, no_cut_request, one_option, one_request};
-pub use option::{Asked, EXPORT_NAME, MAX_OPTION, OPTION_MAGIC, read_option};
-pub use reply::{EINVAL, EIO, ENOMEM, ENOSPC, REPLY_MAGIC, write_reply};
+pub use info::{Details, OptionRefusal, read_info};
+pub use laws::{constants_are_numbers, no_cut_option, no_cut_request, one_option, one_request};
+pub use option::{
+    ABORT, Asked, EXPORT_NAME, GO, INFO, LIST, MAX_OPTION, OPTION_MAGIC, STARTTLS, read_option,
+};
+pub use option_reply::write_option_reply;
+pub use reply::{EINVAL, EIO, ENOMEM, ENOSPC, EPERM, REPLY_MAGIC, write_reply};
 pub use request::{MAX_PAYLOAD, REQUEST_MAGIC, read_request};
-pub use wanted::{DISC, FLUSH, READ, WRITE, Wanted};
+pub use wanted::{DISC, FLUSH, FUA, READ, WRITE, Wanted};
 
 #[cfg(test)]
 mod tests;

@@ -26,6 +26,21 @@ pub const MAX_OPTION: u32 = 65_536;
 /// The option that names an export and ends the handshake.
 pub const EXPORT_NAME: u32 = 1;
 
+/// The option that ends the session.
+pub const ABORT: u32 = 2;
+
+/// The option that asks for the names of all exports.
+pub const LIST: u32 = 3;
+
+/// The option that asks for TLS.
+pub const STARTTLS: u32 = 5;
+
+/// The option that asks about an export.
+pub const INFO: u32 = 6;
+
+/// The option that asks about an export, and ends the handshake.
+pub const GO: u32 = 7;
+
 /// An option, and how many bytes it carries.
 #[derive(Drop, Clone, Copy, PartialEq, Eq, Debug)]
 pub struct Asked {

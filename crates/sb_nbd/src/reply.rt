@@ -19,6 +19,9 @@ use sb_world::Sink;
 /// What a reply begins with.
 pub const REPLY_MAGIC: u32 = 0x67446698;
 
+/// The error of a write to a disk that is read-only.
+pub const EPERM: u32 = 1;
+
 /// The error of a request whose store has failed.
 pub const EIO: u32 = 5;
 

@@ -2,7 +2,10 @@
 
 ghost use Rattle.std.specs.Prelude.{None};
 
-use crate::{NbdEnd, Wanted, read_flags, read_option, read_request, write_export, write_reply};
+use crate::{
+    Asked, Export, NbdEnd, Wanted, answer_to, read_flags, read_option, read_request, write_answer,
+    write_export, write_reply,
+};
 use sb_world::{ReadFault, Sink, Source, WriteFault};
 use std::alloc::Global;
 use std::test::Fail;
@@ -140,5 +143,72 @@ fn a_body_is_a_write_of_its_own_and_an_empty_one_is_none(rt: HostRuntime) -> Res
     let wanted =
         b"\x67\x44\x66\x98\x00\x00\x00\x05\x00\x00\x00\x00\x00\x00\x00\x01\x67\x44\x66\x98\x00\x00\x00\x00\x00\x00\x00\x00\x00\x00\x00\x03\x41\x00\x00\x00\x00\x00\x00\x01\x00\x00\x00\x05";
     assert!(rt; sink.bytes.as_slice() == wanted.as_slice());
+    Ok(())
+}
+
+/// A disk of 16 blocks of 4,096 bytes.
+const EXPORT: Export = Export {
+    size: 65_536,
+    block_size: 4096,
+    flags: 0x000d,
+};
+
+/// What an option that carries these bytes is answered, to a client that wants no zeros.
+fn answered(alloc: Global, option: u32, payload: &[u8]) -> Result<Vec<u8>, Fail> {
+    let mut sink = Kept {
+        bytes: Vec::new(alloc),
+        writes: 0,
+        faults: 0,
+    };
+    let asked = Asked {
+        option,
+        length: payload.len().min(255) as u32,
+    };
+    match write_answer(&mut sink, EXPORT, 3, option, answer_to(asked, payload)) {
+        Ok(()) => Ok(sink.bytes),
+        Err(_) => Err(Fail::from("no memory")),
+    }
+}
+
+#[test]
+fn options_have_the_answers_of_the_table(rt: HostRuntime) -> Result<(), Fail> {
+    let rows: [(u32, &[u8], &[u8]); 8] = [
+        (1, b"", b"\x00\x00\x00\x00\x00\x01\x00\x00\x00\x0d"),
+        (1, b"a", b""),
+        (
+            2,
+            b"",
+            b"\x00\x03\xe8\x89\x04\x55\x65\xa9\x00\x00\x00\x02\x00\x00\x00\x01\x00\x00\x00\x00",
+        ),
+        (
+            3,
+            b"",
+            b"\x00\x03\xe8\x89\x04\x55\x65\xa9\x00\x00\x00\x03\x00\x00\x00\x02\x00\x00\x00\x04\x00\x00\x00\x00\x00\x03\xe8\x89\x04\x55\x65\xa9\x00\x00\x00\x03\x00\x00\x00\x01\x00\x00\x00\x00",
+        ),
+        (
+            5,
+            b"",
+            b"\x00\x03\xe8\x89\x04\x55\x65\xa9\x00\x00\x00\x05\x80\x00\x00\x02\x00\x00\x00\x00",
+        ),
+        (
+            7,
+            b"\x00\x00\x00\x00\x00\x01\x00\x03",
+            b"\x00\x03\xe8\x89\x04\x55\x65\xa9\x00\x00\x00\x07\x00\x00\x00\x03\x00\x00\x00\x0c\x00\x00\x00\x00\x00\x00\x00\x01\x00\x00\x00\x0d\x00\x03\xe8\x89\x04\x55\x65\xa9\x00\x00\x00\x07\x00\x00\x00\x03\x00\x00\x00\x0e\x00\x03\x00\x00\x00\x01\x00\x00\x10\x00\x02\x00\x00\x00\x00\x03\xe8\x89\x04\x55\x65\xa9\x00\x00\x00\x07\x00\x00\x00\x01\x00\x00\x00\x00",
+        ),
+        (
+            7,
+            b"\x00\x00\x00\x01a\x00\x00",
+            b"\x00\x03\xe8\x89\x04\x55\x65\xa9\x00\x00\x00\x07\x80\x00\x00\x06\x00\x00\x00\x00",
+        ),
+        (
+            9,
+            b"",
+            b"\x00\x03\xe8\x89\x04\x55\x65\xa9\x00\x00\x00\x09\x80\x00\x00\x01\x00\x00\x00\x00",
+        ),
+    ];
+    for (option, payload, wanted) in rows {
+        let bytes = answered(rt.alloc(), option, payload)?;
+        assert!(rt; bytes.as_slice() == wanted);
+    }
     Ok(())
 }

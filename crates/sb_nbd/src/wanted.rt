@@ -24,6 +24,9 @@ pub const DISC: u16 = 2;
 /// The type of a request to have all writes kept.
 pub const FLUSH: u16 = 3;
 
+/// The flag of a request that wants its writes kept before the reply.
+pub const FUA: u16 = 1;
+
 /// What a request asks for: `length` bytes of the disk from `offset` on. Its reply has its cookie.
 #[derive(Drop, Clone, Copy, PartialEq, Eq, Debug)]
 pub struct Wanted {
@@ -54,7 +57,8 @@ pub(crate) fn wanted_of(bytes: &[u8]) -> Wanted
     }
 }
 
-fn u16_of(bytes: &[u8]) -> u16
+/// The number of two bytes.
+pub(crate) fn u16_of(bytes: &[u8]) -> u16
     requires { length bytes.now ≡ 2 }
     ensures { to_be_bytes w16 result ≡ bytes.now }
 {

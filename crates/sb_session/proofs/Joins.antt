@@ -1,5 +1,5 @@
 -- How runs of requests join.
-use Rattle.std.proofs.Common.{ℕ, ◌≡◌, ◌+◌, ◌∙◌, List, [], ◌∷◌, ◌++◌, append_assoc, append-nil, length-append}
+use Rattle.std.proofs.Common.{ℕ, ◌≡◌, ◌+◌, ◌∙◌, Bool, List, [], ◌∷◌, ◌++◌, append_assoc, append-nil, length-append}
 use Rattle.std.proofs.Common.{ap, sym, subst, refl, arith}
 use Rattle.sb_base.specs.declared.entry.Entry.{Entry}
 use Rattle.sb_world.specs.Streams.{Takes, Holds}
@@ -61,10 +61,10 @@ moves_both first second = record {
 pub moves_nothing : (a : Streams) → Moves a a [] []
 moves_nothing a = record { taken = takes_nothing a.left; held = holds_nothing a.held }
 
-transcripts_join : (base : Base) (xs ys : List Exchange) → IsTranscript base xs
-    → IsTranscript base ys → IsTranscript base (ys ++ xs)
-transcripts_join base xs [] first second = first
-transcripts_join base xs (y ∷ ys) first second = (second.0, transcripts_join base xs ys first second.1)
+transcripts_join : (read_only : Bool) (base : Base) (xs ys : List Exchange) → IsTranscript read_only base xs
+    → IsTranscript read_only base ys → IsTranscript read_only base (ys ++ xs)
+transcripts_join read_only base xs [] first second = first
+transcripts_join read_only base xs (y ∷ ys) first second = (second.0, transcripts_join read_only base xs ys first second.1)
 
 -- what two runs of requests did
 did_joins : (P Q R : Deed → Type 0) → ((x y : Deed) → P x → Q y → R (followed x y)) → (xs ys : List Exchange)
@@ -72,8 +72,8 @@ did_joins : (P Q R : Deed → Type 0) → ((x y : Deed) → P x → Q y → R (f
 did_joins P Q R both xs ys first second =
     subst R (sym (deed_in-append xs ys)) (both (deed_in xs) (deed_in ys) first second)
 
-pub serves_nothing : (base : Base) (a : Streams) (did : Deed → Type 0) → did nothing → Serves base a a did 0
-serves_nothing base a did done = record {
+pub serves_nothing : (read_only : Bool) (base : Base) (a : Streams) (did : Deed → Type 0) → did nothing → Serves read_only base a a did 0
+serves_nothing read_only base a did done = record {
   transcript = [];
   count = refl;
   answered = tt;
@@ -81,15 +81,15 @@ serves_nothing base a did done = record {
   moved = moves_nothing a;
 }
 
-pub serves_both : (base : Base) (a b c : Streams) (P Q R : Deed → Type 0) (m n : ℕ)
-    → ((x y : Deed) → P x → Q y → R (followed x y)) → Serves base a b P m → Serves base b c Q n
-    → Serves base a c R (m + n)
-serves_both base a b c P Q R m n both first second =
+pub serves_both : (read_only : Bool) (base : Base) (a b c : Streams) (P Q R : Deed → Type 0) (m n : ℕ)
+    → ((x y : Deed) → P x → Q y → R (followed x y)) → Serves read_only base a b P m → Serves read_only base b c Q n
+    → Serves read_only base a c R (m + n)
+serves_both read_only base a b c P Q R m n both first second =
     let moved = moves_both first.moved second.moved in
     record {
       transcript = second.transcript ++ first.transcript;
       count = omega (arith, length-append second.transcript first.transcript, first.count, second.count);
-      answered = transcripts_join base first.transcript second.transcript first.answered second.answered;
+      answered = transcripts_join read_only base first.transcript second.transcript first.answered second.answered;
       done = did_joins P Q R both first.transcript second.transcript first.done second.done;
       moved = record {
         taken = subst (Takes a.left c.left) (sym (asking_bytes-append first.transcript second.transcript)) moved.taken;
@@ -97,15 +97,15 @@ serves_both base a b c P Q R m n both first second =
       };
     }
 
-pub stopped_after : (base : Base) (a b c : Streams) (P Q R : Deed → Type 0) (end : SessionEnd) (m n : ℕ)
-    → ((x y : Deed) → P x → Q y → R (followed x y)) → Serves base a b P m → Stopped base b c Q end n
-    → Stopped base a c R end (m + n)
-stopped_after base a b c P Q R end m n both first second =
+pub stopped_after : (read_only : Bool) (base : Base) (a b c : Streams) (P Q R : Deed → Type 0) (end : SessionEnd) (m n : ℕ)
+    → ((x y : Deed) → P x → Q y → R (followed x y)) → Serves read_only base a b P m → Stopped read_only base b c Q end n
+    → Stopped read_only base a c R end (m + n)
+stopped_after read_only base a b c P Q R end m n both first second =
     let moved = moves_both first.moved second.moved in
     record {
       transcript = second.transcript ++ first.transcript;
       count = omega (arith, length-append second.transcript first.transcript, first.count, second.count);
-      answered = transcripts_join base first.transcript second.transcript first.answered second.answered;
+      answered = transcripts_join read_only base first.transcript second.transcript first.answered second.answered;
       done = did_joins P Q R both first.transcript second.transcript first.done second.done;
       tail = second.tail;
       out = replying_bytes first.transcript ++ second.out;
@@ -127,9 +127,9 @@ stopped_after base a b c P Q R end m n both first second =
     }
 
 -- after the last request that may be answered
-pub serves_spent : (base : Base) (a b : Streams) (did : Deed → Type 0) (n : ℕ) → Serves base a b did n
-    → Stopped base a b did Spent n
-serves_spent base a b did n first = record {
+pub serves_spent : (read_only : Bool) (base : Base) (a b : Streams) (did : Deed → Type 0) (n : ℕ) → Serves read_only base a b did n
+    → Stopped read_only base a b did Spent n
+serves_spent read_only base a b did n first = record {
   transcript = first.transcript;
   count = first.count;
   answered = first.answered;

@@ -1,7 +1,7 @@
 -- Reading and writing ranges, part by part, and the replies.
 use Rattle.std.proofs.Common.{ℕ, ◌≡◌, ◌≤◌, ◌+◌, ◌-◌, ◌∙◌, List, [], ◌∷◌, ◌++◌, length, take, drop, Ok, Err, sum_by}
 use Rattle.std.proofs.Common.{Some, length-take, length-drop, append_assoc, append-nil, ap, sym, subst, refl, arith}
-use Rattle.std.proofs.Common.{inl, inr, None, ◌≢◌, Bool, nat_eq, if◌then◌else◌}
+use Rattle.std.proofs.Common.{inl, inr, None, ◌≢◌, Bool, nat_eq, nat_lt, Result, if◌then◌else◌}
 use Rattle.std.proofs.lemmas.Bool.{ne_eqb, le-ltb}
 use Rattle.std.specs.List.{AllByRecursion}
 use Rattle.std.proofs.lemmas.List.{length-append, drop-drop}
@@ -12,18 +12,19 @@ use Rattle.sb_base.specs.declared.part.Part.{Part}
 use Rattle.sb_base.specs.Ranges.{parts_of}
 use Rattle.sb_base.specs.declared.entry.Entry.{Entry}
 use Rattle.sb_nbd.specs.Requests.{Request}
-use Rattle.sb_nbd.specs.Numbers.{disc_type, read_type, write_type}
+use Rattle.sb_nbd.specs.Numbers.{disc_type, fua, read_type, write_type}
 use Rattle.sb_crew.specs.Bases.{Base}
 use Rattle.sb_crew.specs.Scenes.{Deed, nothing, followed}
 use Rattle.sb_crew.specs.Answers.{call_fault}
 use Rattle.sb_crew.specs.declared.calls.CallFault.{CallFault}
 use Rattle.sb_crew.specs.declared.calls.FlushFault.{FlushFault}
 use Rattle.sb_crew.specs.Outcomes.{Outcome, ReadDone, WriteDone, outcomes_of, bytes_read, blocks_asked, IsBlockOf}
-use Rattle.sb_crew.specs.Outcomes.{AsksOnly, Meets, Stops, Does, ReadDoes, WriteDoes, FlushDoes, flush_of}
+use Rattle.sb_crew.specs.Outcomes.{AsksOnly, Meets, Stops, Does, ReadDoes, WriteDoes, FlushDoes, GoalEnds, flush_of}
 use Rattle.sb_crew.proofs.OutcomeLemmas.{outcomes_join, bytes_join, asks_join, none_fail_join, cause_stays}
 use Rattle.sb_crew.proofs.OutcomeLemmas.{reaches_join, reaches_but_join}
-use Rattle.sb_session.specs.Goals.{refusal, parts_wanted, reads_of, writes_of, goal_of, body_of}
-use Rattle.sb_session.specs.Answers.{ReadsRange, WritesRange, IsAnswer, ReadAnswers, WriteAnswers, FlushAnswers}
+use Rattle.sb_session.specs.Goals.{refusal, parts_wanted, reads_of, writes_of, fua_of, goal_of, body_of}
+use Rattle.sb_session.specs.Answers.{ReadsRange, WritesRange, FlushesWanted, WritesWanted, IsAnswer, ReadAnswers}
+use Rattle.sb_session.specs.Answers.{WriteAnswers, FlushAnswers}
 use Rattle.sb_session.specs.Answers.{Answers, AnswersBy, parts_asked, error_of}
 
 pub reads_of-append : (ps qs : List Part) → reads_of (ps ++ qs) ≡ reads_of qs ++ reads_of ps
@@ -249,23 +250,129 @@ read_fails base did parts count error room fault is read = record {
   ends = record { result = Err fault; ends = read.ends.0; reply = (is, refl) };
 }
 
-pub write_answers : (base : Base) (did : Deed → Type 0) (parts : List Part) (payload : List ℕ)
-    → WritesRange base did parts payload (Ok tt) → WriteAnswers base did parts payload 0
-write_answers base did parts payload written = record {
-  deed = written.deed;
-  done = written.done;
-  asks = written.asks;
-  ends = record { result = Ok tt; ends = written.ends; reply = (refl, refl) };
+-- a flush that FUA wants, and how it ended
+pub fua_flushed : (base : Base) (did : Deed → Type 0) (flags : ℕ) → flags ≡ fua → FlushDoes base did (Ok tt)
+    → FlushesWanted base did flags (Ok tt)
+fua_flushed base did flags is flushed =
+    let goal : fua_of flags flushed.ends.0 ≡ flush_of flushed.ends.0 =
+    ap (λ n. if nat_eq n fua then flush_of flushed.ends.0 else []) is in
+    record {
+      deed = flushed.deed;
+      done = flushed.done;
+      asks = flushed.asks;
+      ends = (
+        flushed.ends.0,
+        subst (λ (goal : List Outcome). GoalEnds base goal (Ok tt) flushed.deed) (sym goal) flushed.ends.1,
+      );
+    }
+
+pub fua_fails : (base : Base) (did : Deed → Type 0) (flags : ℕ) (fault : FlushFault) (call : CallFault) → flags ≡ fua
+    → call ≡ call_fault fault → FlushDoes base did (Err fault) → FlushesWanted base did flags (Err call)
+fua_fails base did flags fault call is same flushed =
+    let goal : fua_of flags flushed.ends.0 ≡ flush_of flushed.ends.0 =
+    ap (λ n. if nat_eq n fua then flush_of flushed.ends.0 else []) is in
+    let fails = subst (λ (f : CallFault). GoalEnds base (flush_of flushed.ends.0) (Err f) flushed.deed) (sym same)
+    flushed.ends.1 in
+    record {
+      deed = flushed.deed;
+      done = flushed.done;
+      asks = flushed.asks;
+      ends = (
+        flushed.ends.0,
+        subst (λ (goal : List Outcome). GoalEnds base goal (Err call) flushed.deed) (sym goal) fails,
+      );
+    }
+
+-- without FUA there is no flush
+pub unflushed : (base : Base) (did : Deed → Type 0) (flags : ℕ) → flags ≢ fua → did nothing
+    → FlushesWanted base did flags (Ok tt)
+unflushed base did flags other done =
+    let goal : fua_of flags 0 ≡ [] = ap (λ (t : Bool). if t then flush_of 0 else []) (ne_eqb flags fua other) in
+    record {
+      deed = nothing;
+      done = done;
+      asks = record { asked = tt };
+      ends = (
+        0,
+        subst (λ (goal : List Outcome). GoalEnds base goal (Ok tt) nothing) (sym goal)
+            (record { met = refl; reached = tt; none_fail = tt }),
+      );
+    }
+
+-- what asks for no blocks asks for no others
+asks_none : (parts : List Part) (xs : List Entry) → AsksOnly [] xs → AsksOnly parts xs
+asks_none parts xs asks = record {
+  asked = all_wider (IsBlockOf []) (IsBlockOf parts) (λ block h. absurd h) (blocks_asked xs) asks.asked;
 }
 
-pub write_fails : (base : Base) (did : Deed → Type 0) (parts : List Part) (payload : List ℕ) (error : ℕ)
-    (fault : CallFault) → error ≡ error_of fault → WritesRange base did parts payload (Err fault)
-    → WriteAnswers base did parts payload error
-write_fails base did parts payload error fault is written = record {
+-- all parts were written, and what is wanted behind them was done or failed
+pub writes_flushed : (base : Base) (P Q R : Deed → Type 0) → ((x y : Deed) → P x → Q y → R (followed x y))
+    → (parts : List Part) (flags : ℕ) (payload : List ℕ) (result : Result Unit CallFault)
+    → WritesRange base P parts payload (Ok tt) → FlushesWanted base Q flags result
+    → WritesWanted base R parts flags payload result
+writes_flushed base P Q R both parts flags payload (Ok done) first second = record {
+  deed = followed first.deed second.deed;
+  done = both first.deed second.deed first.done second.done;
+  ends = (
+    second.ends.0,
+    met_both (writes_of parts payload) (fua_of flags second.ends.0) first.deed second.deed first.ends second.ends.1,
+  );
+  asks = asks_join parts first.deed.entries second.deed.entries first.asks
+      (asks_none parts second.deed.entries second.asks);
+}
+writes_flushed base P Q R both parts flags payload (Err fault) first second = record {
+  deed = followed first.deed second.deed;
+  done = both first.deed second.deed first.done second.done;
+  ends = (
+    second.ends.0,
+    stops_after base (writes_of parts payload) (fua_of flags second.ends.0) []
+        (fua_of flags second.ends.0 ++ writes_of parts payload) first.deed second.deed fault first.ends second.ends.1
+        refl,
+  );
+  asks = asks_join parts first.deed.entries second.deed.entries first.asks
+      (asks_none parts second.deed.entries second.asks);
+}
+
+-- a part couldn't be written, and no flush was begun
+pub writes_failed : (base : Base) (did : Deed → Type 0) (parts : List Part) (flags : ℕ) (payload : List ℕ)
+    (fault : CallFault) → WritesRange base did parts payload (Err fault)
+    → WritesWanted base did parts flags payload (Err fault)
+writes_failed base did parts flags payload fault written =
+    let stops = written.ends in
+    record {
+      deed = written.deed;
+      done = written.done;
+      asks = written.asks;
+      ends = (
+        0,
+        record {
+          missing = fua_of flags 0 ++ stops.missing;
+          some = omega (arith, length-append (fua_of flags 0) stops.missing, stops.some);
+          met = append_assoc (fua_of flags 0) stops.missing (outcomes_of written.deed.entries)
+              ∙ ap (λ os. fua_of flags 0 ++ os) stops.met;
+          reached = stops.reached;
+          cause = stops.cause;
+        },
+      );
+    }
+
+pub write_answers : (base : Base) (did : Deed → Type 0) (parts : List Part) (flags : ℕ) (payload : List ℕ)
+    → WritesWanted base did parts flags payload (Ok tt) → WriteAnswers base did parts flags payload 0
+write_answers base did parts flags payload written = record {
   deed = written.deed;
   done = written.done;
   asks = written.asks;
-  ends = record { result = Err fault; ends = written.ends; reply = (is, refl) };
+  ends = (written.ends.0, record { result = Ok tt; ends = written.ends.1; reply = (refl, refl) });
+}
+
+pub write_fails : (base : Base) (did : Deed → Type 0) (parts : List Part) (flags : ℕ) (payload : List ℕ) (error : ℕ)
+    (fault : CallFault) → error ≡ error_of fault → WritesWanted base did parts flags payload (Err fault)
+    → WriteAnswers base did parts flags payload error
+write_fails base did parts flags payload error fault is written = record {
+  deed = written.deed;
+  done = written.done;
+  asks = written.asks;
+  ends = (written.ends.0, record { result = Err fault; ends = written.ends.1; reply = (is, refl) });
 }
 
 pub flush_answers : (base : Base) (did : Deed → Type 0) → FlushDoes base did (Ok tt) → FlushAnswers base did 0
@@ -286,20 +393,20 @@ flush_fails base did error fault is flushed = record {
 }
 
 -- the reply to a FLUSH
-pub flush_served : (did : Deed → Type 0) (base : Base) (r : Request) (error : ℕ)
-    → refusal base.geometry r.wanted ≡ None → r.wanted.kind ≢ read_type → r.wanted.kind ≢ write_type
-    → disc_type ≤ r.wanted.kind → FlushAnswers base did error → Answers did base r error []
-flush_served did base r error served read write disc told =
+pub flush_served : (did : Deed → Type 0) (read_only : Bool) (base : Base) (r : Request) (error : ℕ)
+    → refusal read_only base.geometry r.wanted ≡ None → r.wanted.kind ≢ read_type → r.wanted.kind ≢ write_type
+    → disc_type ≤ r.wanted.kind → FlushAnswers base did error → Answers did read_only base r error []
+flush_served did read_only base r error served read write disc told =
     let w = r.wanted in
     let mark = told.ends.0 in
     let none : parts_asked None base.geometry r ≡ [] =
     ap (λ (t : Bool). if t then parts_of base.geometry.block_size w.offset (w.offset + w.length) else [])
     (le-ltb w.kind disc_type disc) in
     let goal : goal_of base.geometry r mark ≡ flush_of mark =
-    ap (λ (t : Bool). if t then reads_of (parts_wanted base.geometry w) else if nat_eq w.kind write_type then writes_of
-    (parts_wanted base.geometry w) r.payload else flush_of mark) (ne_eqb w.kind read_type read)
-    ∙ ap (λ (t : Bool). if t then writes_of (parts_wanted base.geometry w) r.payload else flush_of mark)
-    (ne_eqb w.kind write_type write) in
+    ap (λ (t : Bool). if t then reads_of (parts_wanted base.geometry w) else if nat_eq w.kind write_type then fua_of
+    w.flags mark ++ writes_of (parts_wanted base.geometry w) r.payload else flush_of mark) (ne_eqb w.kind read_type read)
+    ∙ ap (λ (t : Bool). if t then fua_of w.flags mark ++ writes_of (parts_wanted base.geometry w) r.payload else flush_of
+    mark) (ne_eqb w.kind write_type write) in
     let body : body_of w told.deed.entries ≡ [] =
     ap (λ (t : Bool). if t then bytes_read told.deed.entries else []) (ne_eqb w.kind read_type read) in
     let flushed : Does did (parts_asked None base.geometry r) (AnswersBy None base r error []) = record {
@@ -315,10 +422,45 @@ flush_served did base r error served read write disc told =
     } in
     subst (λ code. Does did (parts_asked code base.geometry r) (AnswersBy code base r error [])) (sym served) flushed
 
+-- the reply to a WRITE
+pub write_served : (did : Deed → Type 0) (read_only : Bool) (base : Base) (r : Request) (payload : List ℕ) (error : ℕ)
+    → refusal read_only base.geometry r.wanted ≡ None → r.wanted.kind ≡ write_type → payload ≡ r.payload
+    → length payload ≡ r.wanted.length
+    → WriteAnswers base did (parts_of base.geometry.block_size r.wanted.offset (r.wanted.offset + length payload))
+    r.wanted.flags payload error → Answers did read_only base r error []
+write_served did read_only base r payload error served kind same len told =
+    let w = r.wanted in
+    let mark = told.ends.0 in
+    let written = parts_of base.geometry.block_size w.offset (w.offset + length payload) in
+    let parts : parts_asked None base.geometry r ≡ written =
+    ap (λ k. if nat_lt k disc_type then parts_of base.geometry.block_size w.offset (w.offset + w.length) else []) kind
+    ∙ ap (λ n. parts_of base.geometry.block_size w.offset (w.offset + n)) (sym len) in
+    let goal : goal_of base.geometry r mark ≡ fua_of w.flags mark ++ writes_of written payload =
+    ap (λ k. if nat_eq k read_type then reads_of (parts_wanted base.geometry w) else if nat_eq k write_type then fua_of
+    w.flags mark ++ writes_of (parts_wanted base.geometry w) r.payload else flush_of mark) kind
+    ∙ ap (λ ps. fua_of w.flags mark ++ writes_of ps r.payload) parts
+    ∙ ap (λ bytes. fua_of w.flags mark ++ writes_of written bytes) (sym same) in
+    let body : body_of w told.deed.entries ≡ [] =
+    ap (λ k. if nat_eq k read_type then bytes_read told.deed.entries else []) kind in
+    let done : Does did (parts_asked None base.geometry r) (AnswersBy None base r error []) = record {
+      deed = told.deed;
+      done = told.done;
+      asks = subst (λ (parts : List Part). AsksOnly parts told.deed.entries) (sym parts) told.asks;
+      ends = (
+        mark,
+        subst (λ (outcomes : List Outcome).
+            IsAnswer base outcomes (body_of w told.deed.entries) told.deed error []) (sym goal)
+            (subst (λ (bytes : List ℕ).
+            IsAnswer base (fua_of w.flags mark ++ writes_of written payload) bytes told.deed error []) (sym body)
+            told.ends.1),
+      );
+    } in
+    subst (λ code. Does did (parts_asked code base.geometry r) (AnswersBy code base r error [])) (sym served) done
+
 -- the reply to a request that is refused
-pub refused_answers : (did : Deed → Type 0) (base : Base) (r : Request) (error : ℕ)
-    → refusal base.geometry r.wanted ≡ Some error → did nothing → Answers did base r error []
-refused_answers did base r error is done =
+pub refused_answers : (did : Deed → Type 0) (read_only : Bool) (base : Base) (r : Request) (error : ℕ)
+    → refusal read_only base.geometry r.wanted ≡ Some error → did nothing → Answers did read_only base r error []
+refused_answers did read_only base r error is done =
     let refused : Does did [] (AnswersBy (Some error) base r error []) = record {
       deed = nothing;
       done = done;

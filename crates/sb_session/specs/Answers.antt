@@ -1,5 +1,5 @@
 -- What doing a request came to.
-use Rattle.std.specs.Prelude.{ℕ, ◌≡◌, List, [], take, Option, Some, None, Result, Ok, Err}
+use Rattle.std.specs.Prelude.{ℕ, ◌≡◌, Bool, List, [], ◌++◌, take, Option, Some, None, Result, Ok, Err}
 use Rattle.sb_base.specs.declared.geometry.Geometry.{Geometry}
 use Rattle.sb_base.specs.declared.part.Part.{Part}
 use Rattle.sb_nbd.specs.Numbers.{eio, enomem}
@@ -9,7 +9,7 @@ use Rattle.sb_crew.specs.Scenes.{Deed, nothing}
 use Rattle.sb_crew.specs.declared.calls.CallFault.{CallFault}
 use Rattle.sb_crew.specs.declared.calls.CallFault.TheVariants.{StoreFault, Memory, StaleRead, ClockStalled}
 use Rattle.sb_crew.specs.Outcomes.{Outcome, bytes_read, flush_of, GoalEnds, GivesBytes, Does}
-use Rattle.sb_session.specs.Goals.{refusal, parts_wanted, reads_of, writes_of, goal_of, body_of}
+use Rattle.sb_session.specs.Goals.{refusal, parts_wanted, reads_of, writes_of, fua_of, goal_of, body_of}
 
 -- what reading parts into the front of a buffer did
 abbrev pub ReadsRange : Base → (Deed → Type 0) → List Part → ℕ → List ℕ → Result Unit CallFault → Type 0
@@ -45,10 +45,22 @@ abbrev pub ReadAnswers : Base → (Deed → Type 0) → List Part → ℕ → Li
 ReadAnswers base did parts error body =
     Does did parts (λ (deed : Deed). IsAnswer base (reads_of parts) (bytes_read deed.entries) deed error body)
 
+-- what the flush did that these flags want
+abbrev pub FlushesWanted : Base → (Deed → Type 0) → ℕ → Result Unit CallFault → Type 0
+FlushesWanted base did flags result =
+    Does did [] (λ (deed : Deed). (mark : ℕ) × GoalEnds base (fua_of flags mark) result deed)
+
+-- what writing a payload to parts did, with the flush behind it that these flags want
+abbrev pub WritesWanted : Base → (Deed → Type 0) → List Part → ℕ → List ℕ → Result Unit CallFault → Type 0
+WritesWanted base did parts flags payload result =
+    Does did parts (λ (deed : Deed).
+    (mark : ℕ) × GoalEnds base (fua_of flags mark ++ writes_of parts payload) result deed)
+
 -- what a WRITE to parts did, and the error of its reply
-abbrev pub WriteAnswers : Base → (Deed → Type 0) → List Part → List ℕ → ℕ → Type 0
-WriteAnswers base did parts payload error =
-    Does did parts (λ (deed : Deed). IsAnswer base (writes_of parts payload) [] deed error [])
+abbrev pub WriteAnswers : Base → (Deed → Type 0) → List Part → ℕ → List ℕ → ℕ → Type 0
+WriteAnswers base did parts flags payload error =
+    Does did parts (λ (deed : Deed).
+    (mark : ℕ) × IsAnswer base (fua_of flags mark ++ writes_of parts payload) [] deed error [])
 
 -- what a FLUSH did, and the error of its reply
 abbrev pub FlushAnswers : Base → (Deed → Type 0) → ℕ → Type 0
@@ -72,7 +84,7 @@ parts_asked (Some code) geometry r = []
 parts_asked None geometry r = parts_wanted geometry r.wanted
 
 -- what doing a request did, and the reply to it
-abbrev pub Answers : (Deed → Type 0) → Base → Request → ℕ → List ℕ → Type 0
-Answers did base r error body =
-    Does did (parts_asked (refusal base.geometry r.wanted) base.geometry r)
-    (AnswersBy (refusal base.geometry r.wanted) base r error body)
+abbrev pub Answers : (Deed → Type 0) → Bool → Base → Request → ℕ → List ℕ → Type 0
+Answers did read_only base r error body =
+    Does did (parts_asked (refusal read_only base.geometry r.wanted) base.geometry r)
+    (AnswersBy (refusal read_only base.geometry r.wanted) base r error body)

@@ -6,7 +6,7 @@ use Rattle.sb_base.specs.declared.part.Part.{Part}
 use Rattle.sb_base.specs.Ranges.{parts_of}
 use Rattle.sb_base.specs.declared.entry.Entry.{Entry}
 use Rattle.sb_nbd.specs.declared.wanted.Wanted.{Wanted}
-use Rattle.sb_nbd.specs.Numbers.{disc_type, einval, enospc, flush_type, max_payload, read_type, write_type}
+use Rattle.sb_nbd.specs.Numbers.{disc_type, einval, enospc, eperm, flush_type, fua, max_payload, read_type, write_type}
 use Rattle.sb_nbd.specs.Requests.{Request}
 use Rattle.sb_crew.specs.Outcomes.{Outcome, ReadDone, WriteDone, flush_of, bytes_read}
 
@@ -18,15 +18,16 @@ is_disc w = nat_eq w.kind disc_type
 abbrev pub passes_end : Geometry → Wanted → Bool
 passes_end geometry w = nat_lt (geometry.block_size * geometry.blocks) (w.offset + w.length)
 
--- the error by which a request is refused, if it is: a type that isn't READ, WRITE, DISC or FLUSH, a flag, a length,
--- a range
-abbrev pub refusal : Geometry → Wanted → Option ℕ
-refusal geometry w =
+-- the error by which a request is refused, if it is: a type that isn't READ, WRITE, DISC or FLUSH, a flag other than
+-- FUA, a write to a read-only disk, a length, a range
+abbrev pub refusal : Bool → Geometry → Wanted → Option ℕ
+refusal read_only geometry w =
     if nat_lt flush_type w.kind then Some einval
-    else if nat_lt 0 w.flags then Some einval
+    else if nat_lt fua w.flags then Some einval
     else if nat_eq w.kind read_type then (if nat_lt max_payload w.length then Some einval else if passes_end
     geometry w then Some einval else None)
-    else if nat_eq w.kind write_type then (if passes_end geometry w then Some enospc else None)
+    else if nat_eq w.kind write_type then (if read_only then Some eperm else if passes_end
+    geometry w then Some enospc else None)
     else None
 
 -- the parts of the disk that a READ or a WRITE is about
@@ -45,11 +46,16 @@ writes_of [] payload = []
 writes_of (part ∷ parts) payload = writes_of parts (drop part.length payload) ++ WriteDone part
     (take part.length payload) ∷ []
 
+-- the flush that FUA wants behind the writes
+abbrev pub fua_of : ℕ → ℕ → List Outcome
+fua_of flags mark = if nat_eq flags fua then flush_of mark else []
+
 -- what a request that isn't refused wants done, the newest first; the mark is that of its flush, if it has one
 abbrev pub goal_of : Geometry → Request → ℕ → List Outcome
 goal_of geometry r mark =
     if nat_eq r.wanted.kind read_type then reads_of (parts_wanted geometry r.wanted)
-    else if nat_eq r.wanted.kind write_type then writes_of (parts_wanted geometry r.wanted) r.payload
+    else if nat_eq r.wanted.kind write_type then fua_of r.wanted.flags mark ++ writes_of (parts_wanted
+    geometry r.wanted) r.payload
     else flush_of mark
 
 -- the bytes of a reply without error: those that a READ read, else none

@@ -1,60 +1,48 @@
 -- The handshake of a session.
-use Rattle.std.specs.Prelude.{ℕ, ◌≡◌, ◌≢◌, ◌≤◌, ◌*◌, ◌⊎◌, Bool, nat_lt, List, [], ◌++◌, Option, Result, Ok, Err}
+use Rattle.std.specs.Prelude.{ℕ, ◌≡◌, ◌≤◌, ◌<◌, ◌+◌, ◌⊎◌, List, [], ◌∷◌, ◌++◌, length, Option, Result, Ok, Err}
 use Rattle.std.specs.Int.{w32, to_be_bytes}
-use Rattle.sb_base.specs.declared.geometry.Geometry.{Geometry}
+use Rattle.std.specs.List.{AllByRecursion}
 use Rattle.sb_nbd.specs.declared.end.NbdEnd.{NbdEnd}
 use Rattle.sb_nbd.specs.declared.end.NbdEnd.TheVariants as nbd
-use Rattle.sb_nbd.specs.Numbers.{export_name, max_flags}
-use Rattle.sb_nbd.specs.Options as options
-use Rattle.sb_nbd.specs.OptionReading.{StopsOption}
-use Rattle.sb_nbd.specs.Greetings.{greeting_bytes, export_bytes, StopsFlags}
+use Rattle.sb_nbd.specs.declared.export.Export.{Export}
+use Rattle.sb_nbd.specs.Numbers.{max_flags}
+use Rattle.sb_nbd.specs.Greetings.{greeting_bytes, StopsFlags}
 use Rattle.sb_session.specs.Streams.{Streams, Moves}
+use Rattle.sb_session.specs.Haggling.{end_of, most_answers, Haggle, LeadsTo, asked_bytes, answered_bytes, IsFrontOf}
+use Rattle.sb_session.specs.Haggling.{StopsHaggling}
+use Rattle.sb_session.specs.declared.haggling.Next.TheVariants as next
 use Rattle.sb_session.specs.declared.end.SessionEnd.{SessionEnd}
-use Rattle.sb_session.specs.declared.end.SessionEnd.TheVariants.{Ended, Refused, ReadFault, WriteFault}
+use Rattle.sb_session.specs.declared.end.SessionEnd.TheVariants.{Fault, Spent}
 
--- what an export tells of a disk that can be flushed: that it has flags (bit 0), and that (bit 2)
-abbrev pub transmission_flags : ℕ
-transmission_flags = 5
+-- what a client sends before its requests: its flags, and options
+abbrev pub opening_bytes : ℕ → List Haggle → List ℕ
+opening_bytes flags options = to_be_bytes w32 flags ++ asked_bytes options
 
--- the end of a session by the end of a reading
-abbrev pub end_of : NbdEnd → SessionEnd
-end_of nbd.Ended = Ended
-end_of nbd.ReadFault = ReadFault
-end_of nbd.WriteFault = WriteFault
-end_of other = Refused
+-- the greeting and the answers to options
+abbrev pub handshake_bytes : Export → ℕ → List Haggle → List ℕ
+handshake_bytes export flags options = greeting_bytes ++ answered_bytes export flags options
 
--- EXPORT_NAME with the empty name
-abbrev pub export_option : options.Option
-export_option = record { asked = record { option = export_name; length = 0 }; payload = [] }
+-- options that a session has behind it as its transmission begins: the newest one began it
+pub record AreHaggled (last : Haggle) (options : List Haggle) : Type 0 where
+  pub answered : AllByRecursion (LeadsTo (Ok next.Option)) options
+  pub begins : LeadsTo (Ok next.Transmission) last
 
--- what a client sends before its requests: its flags, and that option
-abbrev pub opening_bytes : ℕ → List ℕ
-opening_bytes flags = to_be_bytes w32 flags ++ options.option_bytes export_option
-
--- a client whose flags, at most 3, lack bit 1 wants the zeros
-abbrev pub wants_zeroes : ℕ → Bool
-wants_zeroes flags = nat_lt flags 2
-
--- the greeting and the answer to EXPORT_NAME
-abbrev pub handshake_bytes : Geometry → ℕ → ℕ → List ℕ
-handshake_bytes geometry transmission flags =
-    greeting_bytes ++ export_bytes (geometry.block_size * geometry.blocks) transmission (wants_zeroes flags)
-
--- a front of some bytes
-abbrev pub IsFrontOf : List ℕ → List ℕ → Type 0
-IsFrontOf front bytes = (after : List ℕ) × (bytes ≡ front ++ after)
-
--- the handshake was taken, and answered
-pub record Opened (geometry : Geometry) (transmission : ℕ) (before after : Streams) : Type 0 where
+-- the handshake was taken, and answered, with so many options
+pub record Opened (export : Export) (before after : Streams) (n : ℕ) : Type 0 where
   pub flags : ℕ
   pub known : flags ≤ max_flags
-  pub moved : Moves before after (opening_bytes flags) (handshake_bytes geometry transmission flags)
+  pub options : List Haggle
+  pub last : Haggle
+  pub count : length options + 1 ≡ n
+  pub within : n ≤ most_answers
+  pub haggled : AreHaggled last options
+  pub moved : Moves before after (opening_bytes flags (last ∷ options)) (handshake_bytes export flags (last ∷ options))
 
 -- the greeting couldn't be written
 pub record GreetingFails (taken written : List ℕ) (end : SessionEnd) : Type 0 where
   pub none : taken ≡ []
   pub front : IsFrontOf written greeting_bytes
-  pub fault : end ≡ WriteFault
+  pub fault : end ≡ Fault nbd.WriteFault
 
 -- no flags came, or unknown ones
 pub record FlagsEnd (now : Option (List ℕ)) (taken written : List ℕ) (end : SessionEnd) : Type 0 where
@@ -63,52 +51,35 @@ pub record FlagsEnd (now : Option (List ℕ)) (taken written : List ℕ) (end : 
   pub stops : StopsFlags now taken reading
   pub end_is : end ≡ end_of reading
 
--- flags came, and then no option
-pub record OptionEnds (now : Option (List ℕ)) (taken written : List ℕ) (end : SessionEnd) : Type 0 where
-  pub written_is : written ≡ greeting_bytes
-  pub flags : ℕ
-  pub known : flags ≤ max_flags
-  pub tail : List ℕ
-  pub taken_is : taken ≡ to_be_bytes w32 flags ++ tail
-  pub reading : NbdEnd
-  pub stops : StopsOption now tail reading
-  pub end_is : end ≡ end_of reading
-
--- flags came, and then another option than EXPORT_NAME with the empty name
-pub record OptionRefused (taken written : List ℕ) (end : SessionEnd) : Type 0 where
-  pub written_is : written ≡ greeting_bytes
-  pub flags : ℕ
-  pub known : flags ≤ max_flags
-  pub option : options.Option
-  pub is : options.IsOption option
-  pub other : option ≢ export_option
-  pub taken_is : taken ≡ to_be_bytes w32 flags ++ options.option_bytes option
-  pub end_is : end ≡ Refused
-
--- the answer to EXPORT_NAME couldn't be written
-pub record ExportFails (geometry : Geometry) (transmission : ℕ) (taken written : List ℕ)
+-- flags came, and options that were answered, and then the session ended
+pub record OptionsEnd (export : Export) (now : Option (List ℕ)) (taken written : List ℕ)
     (end : SessionEnd) : Type 0 where
   pub flags : ℕ
   pub known : flags ≤ max_flags
-  pub taken_is : taken ≡ opening_bytes flags
-  pub front : IsFrontOf written (handshake_bytes geometry transmission flags)
-  pub fault : end ≡ WriteFault
+  pub options : List Haggle
+  pub answered : AllByRecursion (LeadsTo (Ok next.Option)) options
+  pub within : length options ≤ most_answers
+  pub tail : List ℕ
+  pub out : List ℕ
+  pub taken_is : taken ≡ to_be_bytes w32 flags ++ (asked_bytes options ++ tail)
+  pub written_is : written ≡ greeting_bytes ++ (answered_bytes export flags options ++ out)
+  -- behind the last option that was answered, or because no more are answered
+  pub why : (StopsHaggling export flags now tail out end × (length options < most_answers))
+      ⊎ ((end ≡ Spent) × (length options ≡ most_answers) × (tail ≡ []) × (out ≡ []))
 
 -- why a handshake ended, by what it took and wrote
-abbrev pub EndsHandshake : Geometry → ℕ → Option (List ℕ) → List ℕ → List ℕ → SessionEnd → Type 0
-EndsHandshake geometry transmission now taken written end =
-    GreetingFails taken written end ⊎ (FlagsEnd now taken written end
-    ⊎ (OptionEnds now taken written end
-    ⊎ (OptionRefused taken written end ⊎ ExportFails geometry transmission taken written end)))
+abbrev pub EndsHandshake : Export → Option (List ℕ) → List ℕ → List ℕ → SessionEnd → Type 0
+EndsHandshake export now taken written end =
+    GreetingFails taken written end ⊎ (FlagsEnd now taken written end ⊎ OptionsEnd export now taken written end)
 
 -- a handshake that ended the session
-pub record Unopened (geometry : Geometry) (transmission : ℕ) (before after : Streams) (end : SessionEnd) : Type 0 where
+pub record Unopened (export : Export) (before after : Streams) (end : SessionEnd) : Type 0 where
   pub bytes : List ℕ
   pub out : List ℕ
   pub moved : Moves before after bytes out
-  pub why : EndsHandshake geometry transmission after.left bytes out end
+  pub why : EndsHandshake export after.left bytes out end
 
--- what the handshake came to
-abbrev pub OpeningEnds : Geometry → ℕ → Streams → Streams → Result Unit SessionEnd → Type 0
-OpeningEnds geometry transmission before after (Ok done) = Opened geometry transmission before after
-OpeningEnds geometry transmission before after (Err end) = Unopened geometry transmission before after end
+-- what the handshake came to: how many options were answered, or the end of the session
+abbrev pub OpeningEnds : Export → Streams → Streams → Result ℕ SessionEnd → Type 0
+OpeningEnds export before after (Ok n) = Opened export before after n
+OpeningEnds export before after (Err end) = Unopened export before after end

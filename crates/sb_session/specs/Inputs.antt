@@ -9,7 +9,7 @@ use Rattle.sb_nbd.specs.declared.end.NbdEnd.TheVariants as nbd
 use Rattle.sb_nbd.specs.Requests.{magic_bytes, fields_bytes, FitsFields, Request, IsRequest, request_bytes}
 use Rattle.sb_nbd.specs.RequestReading.{IsCutRequest}
 use Rattle.sb_session.specs.declared.end.SessionEnd.{SessionEnd}
-use Rattle.sb_session.specs.declared.end.SessionEnd.TheVariants.{Disconnected, Ended, Refused}
+use Rattle.sb_session.specs.declared.end.SessionEnd.TheVariants.{Disconnected, Ended, Fault, Spent}
 use Rattle.sb_session.specs.Goals.{is_disc}
 
 -- the bytes of requests, the oldest first
@@ -36,14 +36,22 @@ IsMalformed bytes (nbd.TooBig size) = (w : Wanted) × (after : List ℕ) × Fits
     × (w.length ≡ size) × (max_payload < size) × (bytes ≡ magic_bytes ++ (fields_bytes w ++ after))
 IsMalformed bytes end = ⊥
 
--- all bytes behind the requests that were answered end the session so. After a fault of a stream, and after the last
--- request that a session may answer, they may be any.
+-- all bytes behind the requests that were answered end the session by this fault. After a fault of a stream they may
+-- be any.
+abbrev pub EndsByFault : List ℕ → NbdEnd → Type 0
+EndsByFault bytes nbd.ReadFault = Unit {0}
+EndsByFault bytes nbd.WriteFault = Unit {0}
+EndsByFault bytes reading = IsMalformed bytes reading
+
+-- all bytes behind the requests that were answered end the session so. After the last request that a session may
+-- answer they may be any.
 abbrev pub EndsInput : List ℕ → SessionEnd → Type 0
 EndsInput bytes Disconnected = (r : Request) × (after : List ℕ) × IsDisc r
     × (bytes ≡ request_bytes r ++ after)
 EndsInput bytes Ended = bytes ≡ []
-EndsInput bytes Refused = (reading : NbdEnd) × IsMalformed bytes reading
-EndsInput bytes end = Unit {0}
+EndsInput bytes (Fault reading) = EndsByFault bytes reading
+EndsInput bytes Spent = Unit {0}
+EndsInput bytes other = ⊥
 
 -- an input has these requests, the oldest first, and ends so
 pub record IsInput (bytes : List ℕ) (requests : List Request) (end : SessionEnd) : Type 0 where
@@ -52,9 +60,14 @@ pub record IsInput (bytes : List ℕ) (requests : List Request) (end : SessionEn
   pub going_on : AllByRecursion GoesOn requests
   pub ends : EndsInput tail end
 
+-- a fault that the input alone decides
+abbrev pub IsOfInput : NbdEnd → Type 0
+IsOfInput nbd.ReadFault = ⊥
+IsOfInput nbd.WriteFault = ⊥
+IsOfInput other = Unit {0}
+
 -- an end that the input alone decides
 abbrev pub IsByInput : SessionEnd → Type 0
-IsByInput Disconnected = Unit {0}
-IsByInput Ended = Unit {0}
-IsByInput Refused = Unit {0}
-IsByInput end = ⊥
+IsByInput Spent = ⊥
+IsByInput (Fault reading) = IsOfInput reading
+IsByInput other = Unit {0}

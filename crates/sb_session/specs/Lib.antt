@@ -3,6 +3,7 @@ pub mod Goals
 pub mod Answers
 pub mod Transcripts
 pub mod Inputs
+pub mod Haggling
 pub mod Handshakes
 pub mod Turns
 pub mod Sessions

@@ -1,5 +1,5 @@
 -- The requests of a session with what each did and its reply. Exchanges are newest first.
-use Rattle.std.specs.Prelude.{ℕ, ◌≡◌, false, List, [], ◌∷◌, ◌++◌}
+use Rattle.std.specs.Prelude.{ℕ, ◌≡◌, Bool, false, List, [], ◌∷◌, ◌++◌}
 use Rattle.std.specs.List.{AllByRecursion}
 use Rattle.sb_nbd.specs.Requests.{Request, IsRequest, request_bytes}
 use Rattle.sb_nbd.specs.Replies.{reply_bytes}
@@ -17,15 +17,15 @@ pub record Exchange : Type 0 where
   pub body : List ℕ
 
 -- a request that isn't DISC, with the reply that it had to get
-pub record IsAnswered (base : Base) (x : Exchange) : Type 0 where
+pub record IsAnswered (read_only : Bool) (base : Base) (x : Exchange) : Type 0 where
   pub request : IsRequest x.request
   pub goes_on : is_disc x.request.wanted ≡ false
-  pub answer : AnswersBy (refusal base.geometry x.request.wanted) base x.request x.error x.body x.deed
-  pub asks : AsksOnly (parts_asked (refusal base.geometry x.request.wanted) base.geometry x.request) x.deed.entries
+  pub answer : AnswersBy (refusal read_only base.geometry x.request.wanted) base x.request x.error x.body x.deed
+  pub asks : AsksOnly (parts_asked (refusal read_only base.geometry x.request.wanted) base.geometry x.request) x.deed.entries
 
 -- the exchanges of a session
-abbrev pub IsTranscript : Base → List Exchange → Type 0
-IsTranscript base exchanges = AllByRecursion (IsAnswered base) exchanges
+abbrev pub IsTranscript : Bool → Base → List Exchange → Type 0
+IsTranscript read_only base exchanges = AllByRecursion (IsAnswered read_only base) exchanges
 
 -- what was done in all exchanges
 abbrev pub deed_in : List Exchange → Deed

@@ -1,4 +1,4 @@
-//! Sessions over a disk and a connection in memory.
+//! Sessions over a disk and a connection in memory. The bytes are those of the NBD protocol document.
 
 ghost use Rattle.std.specs.Prelude.{◌≡◌, ◌≤◌, ◌*◌, None, IfOk, vec_len, length};
 ghost use Rattle.sb_crew.specs.Answers.{fault_for};
@@ -6,7 +6,7 @@ ghost use Rattle.sb_crew.specs.Answers.{fault_for};
 use crate::{SessionEnd, serve};
 use sb_base::{Geometry, Part, Settings};
 use sb_crew::{CallFault, Calls, FlushFault};
-use sb_nbd::MAX_PAYLOAD;
+use sb_nbd::{MAX_PAYLOAD, NbdEnd};
 use sb_world::{LinkFault, ReadFault, Sink, Source, WriteFault};
 use std::alloc::{AllocError, Global};
 use std::test::Fail;
@@ -152,13 +152,68 @@ impl Sink for Outgoing {
     }
 }
 
-/// A client's flags 3, and EXPORT_NAME with the empty name.
+/// A client's flags 3.
+const FLAGS: &[u8] = b"\x00\x00\x00\x03";
+
+/// EXPORT_NAME with the empty name.
+const EXPORT_NAME: &[u8] = b"IHAVEOPT\x00\x00\x00\x01\x00\x00\x00\x00";
+
+/// These two.
 const OPENING: &[u8] = b"\x00\x00\x00\x03IHAVEOPT\x00\x00\x00\x01\x00\x00\x00\x00";
 
 const GREETING: &[u8] = b"NBDMAGICIHAVEOPT\x00\x03";
 
-/// The greeting, and an export of 65,536 bytes with the flags 5.
-const HANDSHAKE: &[u8] = b"NBDMAGICIHAVEOPT\x00\x03\x00\x00\x00\x00\x00\x01\x00\x00\x00\x05";
+/// The greeting, and an export of 65,536 bytes that takes FUA.
+const HANDSHAKE: &[u8] = b"NBDMAGICIHAVEOPT\x00\x03\x00\x00\x00\x00\x00\x01\x00\x00\x00\x0d";
+
+/// GO that asks for nothing.
+const GO: &[u8] = b"IHAVEOPT\x00\x00\x00\x07\x00\x00\x00\x06\x00\x00\x00\x00\x00\x00";
+
+/// GO that asks for the block sizes, which have the number 3.
+const GO_3: &[u8] = b"IHAVEOPT\x00\x00\x00\x07\x00\x00\x00\x08\x00\x00\x00\x00\x00\x01\x00\x03";
+
+const LIST: &[u8] = b"IHAVEOPT\x00\x00\x00\x03\x00\x00\x00\x00";
+
+const ABORT: &[u8] = b"IHAVEOPT\x00\x00\x00\x02\x00\x00\x00\x00";
+
+/// An option that isn't known.
+const OPTION_9: &[u8] = b"IHAVEOPT\x00\x00\x00\x09\x00\x00\x00\x00";
+
+/// The export to GO: 65,536 bytes, with these flags.
+const EXPORT_7: &[u8] =
+    b"\x00\x03\xe8\x89\x04\x55\x65\xa9\x00\x00\x00\x07\x00\x00\x00\x03\x00\x00\x00\x0c\x00\x00\x00\x00\x00\x00\x00\x01\x00\x00\x00\x0d";
+
+/// Blocks of 4,096 bytes, and requests of at most 32 MiB, to GO.
+const SIZES_7: &[u8] =
+    b"\x00\x03\xe8\x89\x04\x55\x65\xa9\x00\x00\x00\x07\x00\x00\x00\x03\x00\x00\x00\x0e\x00\x03\x00\x00\x00\x01\x00\x00\x10\x00\x02\x00\x00\x00";
+
+const ACK_7: &[u8] =
+    b"\x00\x03\xe8\x89\x04\x55\x65\xa9\x00\x00\x00\x07\x00\x00\x00\x01\x00\x00\x00\x00";
+
+/// The one export, whose name is empty.
+const SERVER_3: &[u8] =
+    b"\x00\x03\xe8\x89\x04\x55\x65\xa9\x00\x00\x00\x03\x00\x00\x00\x02\x00\x00\x00\x04\x00\x00\x00\x00";
+
+const ACK_3: &[u8] =
+    b"\x00\x03\xe8\x89\x04\x55\x65\xa9\x00\x00\x00\x03\x00\x00\x00\x01\x00\x00\x00\x00";
+
+const UNSUP_9: &[u8] =
+    b"\x00\x03\xe8\x89\x04\x55\x65\xa9\x00\x00\x00\x09\x80\x00\x00\x01\x00\x00\x00\x00";
+
+const DISC: &[u8] =
+    b"\x25\x60\x95\x13\x00\x00\x00\x02\x00\x00\x00\x00\x00\x00\x00\x00\x00\x00\x00\x00\x00\x00\x00\x00\x00\x00\x00\x00";
+
+/// A READ with FUA of 512 bytes at 0, of cookie 1.
+const READ_512: &[u8] =
+    b"\x25\x60\x95\x13\x00\x01\x00\x00\x00\x00\x00\x00\x00\x00\x00\x01\x00\x00\x00\x00\x00\x00\x00\x00\x00\x00\x02\x00";
+
+const READ_1: &[u8] = b"\x67\x44\x66\x98\x00\x00\x00\x00\x00\x00\x00\x00\x00\x00\x00\x01";
+
+/// A WRITE with FUA of three bytes at 0, of cookie 4.
+const WRITE_ABC: &[u8] =
+    b"\x25\x60\x95\x13\x00\x01\x00\x01\x00\x00\x00\x00\x00\x00\x00\x04\x00\x00\x00\x00\x00\x00\x00\x00\x00\x00\x00\x03abc";
+
+const ZEROS: &[u8] = &[0; 512];
 
 /// A request without flags.
 fn request(kind: u8, cookie: u8, offset: u32, length: u32) -> [u8; 28] {
@@ -250,6 +305,7 @@ fn content(alloc: Global, geometry: Geometry) -> Result<Vec<u8>, AllocError>
 fn run(
     alloc: Global,
     fault: Option<LinkFault>,
+    read_only: bool,
     source: &mut Incoming,
     sink: &mut Outgoing,
     room: &mut [u8],
@@ -266,7 +322,7 @@ fn run(
                 settings: SETTINGS,
                 fault,
             };
-            Ok(Some(serve(&mut disk, &mut (), 5, room, source, sink)))
+            Ok(Some(serve(&mut disk, &mut (), read_only, room, source, sink)))
         }
         Err(_) => Ok(None),
     }
@@ -281,6 +337,7 @@ fn a_client_that_asks_for_nothing_gets_greeting_and_export(rt: HostRuntime) -> R
         run(
             rt.alloc(),
             None,
+            false,
             &mut source,
             &mut sink,
             room.as_mut_slice()
@@ -301,6 +358,7 @@ fn an_export_is_padded_unless_no_zeroes_are_wanted(rt: HostRuntime) -> Result<()
         run(
             rt.alloc(),
             None,
+            false,
             &mut source,
             &mut sink,
             room.as_mut_slice()
@@ -326,7 +384,7 @@ fn is_read(
     let requests = reads(alloc)?;
     let mut source = session_of(alloc, requests.as_slice(), piece)?;
     let mut sink = sink_for(alloc, 9);
-    let end = run(alloc, fault, &mut source, &mut sink, room)?;
+    let end = run(alloc, fault, false, &mut source, &mut sink, room)?;
     let replies = replies(alloc, error)?;
     let wanted = joined(alloc, &[HANDSHAKE, replies.as_slice()])?;
     Ok(end == Some(SessionEnd::Disconnected) && sink.bytes == wanted)
@@ -379,7 +437,7 @@ fn is_answered(
     let requests = joined(alloc, requests)?;
     let mut source = session_of(alloc, requests.as_slice(), 4096)?;
     let mut sink = sink_for(alloc, 9);
-    let end = run(alloc, None, &mut source, &mut sink, room)?;
+    let end = run(alloc, None, false, &mut source, &mut sink, room)?;
     let replies = joined(alloc, replies)?;
     let wanted = joined(alloc, &[HANDSHAKE, replies.as_slice()])?;
     Ok(end == Some(SessionEnd::Disconnected) && sink.bytes == wanted)
@@ -476,61 +534,233 @@ fn a_write_over_a_border_is_read_from_both_blocks(rt: HostRuntime) -> Result<(),
     Ok(())
 }
 
-/// Whether a session of these bytes is refused, with so much written.
-fn is_refused(
+/// How a session ended, and what it wrote.
+#[derive(Drop)]
+struct Outcome {
+    end: Option<SessionEnd>,
+    bytes: Vec<u8>,
+}
+
+/// A session of these bytes, in pieces of so many.
+fn told(
     alloc: Global,
-    parts: &[&[u8]],
-    written: &[u8],
-    room: &mut [u8],
-) -> Result<bool, AllocError>
-    requires { MAX_PAYLOAD ≤ length room.old }
-    ensures { length room.new ≡ length room.old }
-{
-    let mut source = source_of(alloc, parts, 4096)?;
-    let mut sink = sink_for(alloc, 9);
-    let end = run(alloc, None, &mut source, &mut sink, room)?;
-    Ok(end == Some(SessionEnd::Refused) && sink.bytes.as_slice() == written)
+    read_only: bool,
+    sent: &[&[u8]],
+    piece: usize,
+) -> Result<Outcome, AllocError> {
+    let mut room = vec![in alloc; 0; 33_554_432]?;
+    let mut source = source_of(alloc, sent, piece)?;
+    let mut sink = sink_for(alloc, 99);
+    let end = run(
+        alloc,
+        None,
+        read_only,
+        &mut source,
+        &mut sink,
+        room.as_mut_slice(),
+    )?;
+    Ok(Outcome {
+        end,
+        bytes: sink.bytes,
+    })
+}
+
+/// Whether a session of these bytes writes that behind the greeting and ends so, in one piece and in pieces of one byte.
+fn is_told(
+    alloc: Global,
+    read_only: bool,
+    sent: &[&[u8]],
+    answers: &[&[u8]],
+    end: SessionEnd,
+) -> Result<bool, AllocError> {
+    let whole = told(alloc, read_only, sent, 4096)?;
+    let dripped = told(alloc, read_only, sent, 1)?;
+    let answers = joined(alloc, answers)?;
+    let wanted = joined(alloc, &[GREETING, answers.as_slice()])?;
+    let ended = whole.end == Some(end) && dripped.end == Some(end);
+    Ok(ended && whole.bytes == wanted && dripped.bytes == wanted)
 }
 
 #[test]
-fn an_input_that_is_cut_is_refused(rt: HostRuntime) -> Result<(), Fail> {
-    let mut room = vec![in rt.alloc(); 0; 33_554_432]?;
-    let bytes = b"\x25\x60\x95\x13\x00";
-    let refused = is_refused(
-        rt.alloc(),
-        &[OPENING, bytes.as_slice()],
-        HANDSHAKE,
-        room.as_mut_slice(),
-    )?;
-    assert!(rt; refused);
+fn options_are_answered_by_the_table(rt: HostRuntime) -> Result<(), Fail> {
+    let rows: [(bool, &[&[u8]], &[&[u8]], SessionEnd); 12] = [
+        (
+            false,
+            &[FLAGS, GO, DISC],
+            &[EXPORT_7, ACK_7],
+            SessionEnd::Disconnected,
+        ),
+        (
+            false,
+            &[FLAGS, GO_3],
+            &[EXPORT_7, SIZES_7, ACK_7],
+            SessionEnd::Ended,
+        ),
+        (false, &[FLAGS, LIST], &[SERVER_3, ACK_3], SessionEnd::Ended),
+        (false, &[FLAGS, OPTION_9], &[UNSUP_9], SessionEnd::Ended),
+        (
+            false,
+            &[FLAGS, b"IHAVEOPT\x00\x00\x00\x05\x00\x00\x00\x00"],
+            &[b"\x00\x03\xe8\x89\x04\x55\x65\xa9\x00\x00\x00\x05\x80\x00\x00\x02\x00\x00\x00\x00"],
+            SessionEnd::Ended,
+        ),
+        (
+            false,
+            &[FLAGS, b"IHAVEOPT\x00\x00\x00\x03\x00\x00\x00\x01a"],
+            &[b"\x00\x03\xe8\x89\x04\x55\x65\xa9\x00\x00\x00\x03\x80\x00\x00\x03\x00\x00\x00\x00"],
+            SessionEnd::Ended,
+        ),
+        (
+            false,
+            &[
+                FLAGS,
+                b"IHAVEOPT\x00\x00\x00\x07\x00\x00\x00\x07\x00\x00\x00\x01a\x00\x00",
+            ],
+            &[b"\x00\x03\xe8\x89\x04\x55\x65\xa9\x00\x00\x00\x07\x80\x00\x00\x06\x00\x00\x00\x00"],
+            SessionEnd::Ended,
+        ),
+        (
+            false,
+            &[
+                FLAGS,
+                b"IHAVEOPT\x00\x00\x00\x06\x00\x00\x00\x06\x00\x00\x00\x00\x00\x01",
+            ],
+            &[b"\x00\x03\xe8\x89\x04\x55\x65\xa9\x00\x00\x00\x06\x80\x00\x00\x03\x00\x00\x00\x00"],
+            SessionEnd::Ended,
+        ),
+        (
+            false,
+            &[FLAGS, ABORT, LIST],
+            &[b"\x00\x03\xe8\x89\x04\x55\x65\xa9\x00\x00\x00\x02\x00\x00\x00\x01\x00\x00\x00\x00"],
+            SessionEnd::Aborted,
+        ),
+        (
+            false,
+            &[FLAGS, b"IHAVEOPT\x00\x00\x00\x01\x00\x00\x00\x01a"],
+            &[],
+            SessionEnd::NoSuchExport(1),
+        ),
+        (
+            false,
+            &[FLAGS, b"IHAVEOPT\x00\x00\x00\x08\x00\x01\x00\x01", LIST],
+            &[],
+            SessionEnd::Fault(NbdEnd::TooBig { length: 65_537 }),
+        ),
+        (
+            false,
+            &[b"\x00\x00\x00\x04", LIST],
+            &[],
+            SessionEnd::Fault(NbdEnd::BadFlags(4)),
+        ),
+    ];
+    for (read_only, sent, answers, end) in rows {
+        assert!(rt; is_told(rt.alloc(), read_only, sent, answers, end)?);
+    }
     Ok(())
 }
 
 #[test]
-fn an_option_to_list_is_refused(rt: HostRuntime) -> Result<(), Fail> {
-    let mut room = vec![in rt.alloc(); 0; 33_554_432]?;
-    let bytes = b"\x00\x00\x00\x03IHAVEOPT\x00\x00\x00\x03\x00\x00\x00\x00";
-    let refused = is_refused(
-        rt.alloc(),
-        &[bytes.as_slice()],
-        GREETING,
-        room.as_mut_slice(),
-    )?;
-    assert!(rt; refused);
+fn requests_are_answered_by_the_table(rt: HostRuntime) -> Result<(), Fail> {
+    let rows: [(bool, &[&[u8]], &[&[u8]], SessionEnd); 4] = [
+        (
+            false,
+            &[
+                FLAGS,
+                b"IHAVEOPT\x00\x00\x00\x0b\x00\x00\x00\x00",
+                b"IHAVEOPT\x00\x00\x00\x08\x00\x00\x00\x00",
+                GO_3,
+                READ_512,
+                DISC,
+            ],
+            &[
+                b"\x00\x03\xe8\x89\x04\x55\x65\xa9\x00\x00\x00\x0b\x80\x00\x00\x01\x00\x00\x00\x00",
+                b"\x00\x03\xe8\x89\x04\x55\x65\xa9\x00\x00\x00\x08\x80\x00\x00\x01\x00\x00\x00\x00",
+                EXPORT_7,
+                SIZES_7,
+                ACK_7,
+                READ_1,
+                ZEROS,
+            ],
+            SessionEnd::Disconnected,
+        ),
+        (
+            false,
+            &[FLAGS, EXPORT_NAME, WRITE_ABC, DISC],
+            &[
+                b"\x00\x00\x00\x00\x00\x01\x00\x00\x00\x0d",
+                b"\x67\x44\x66\x98\x00\x00\x00\x00\x00\x00\x00\x00\x00\x00\x00\x04",
+            ],
+            SessionEnd::Disconnected,
+        ),
+        (
+            true,
+            &[FLAGS, EXPORT_NAME, WRITE_ABC, DISC],
+            &[
+                b"\x00\x00\x00\x00\x00\x01\x00\x00\x00\x0f",
+                b"\x67\x44\x66\x98\x00\x00\x00\x01\x00\x00\x00\x00\x00\x00\x00\x04",
+            ],
+            SessionEnd::Disconnected,
+        ),
+        (
+            false,
+            &[FLAGS, GO, b"\x25\x60\x95\x14", DISC],
+            &[EXPORT_7, ACK_7],
+            SessionEnd::Fault(NbdEnd::BadMagic(0x25609514)),
+        ),
+    ];
+    for (read_only, sent, answers, end) in rows {
+        assert!(rt; is_told(rt.alloc(), read_only, sent, answers, end)?);
+    }
+    Ok(())
+}
+
+/// Whether a session that is cut behind so many bytes of a message is told so, and as ended where none of it came.
+fn is_cut(alloc: Global, before: &[u8], message: &[u8]) -> Result<bool, AllocError> {
+    for got in 0..message.len() {
+        let cut = told(alloc, false, &[before, &message[..got]], 4096)?;
+        let wanted = if got == 0 {
+            SessionEnd::Ended
+        } else {
+            SessionEnd::Fault(NbdEnd::Cut { got: got as u64 })
+        };
+        if cut.end != Some(wanted) {
+            return Ok(false);
+        }
+    }
+    Ok(true)
+}
+
+#[test]
+fn a_session_that_is_cut_tells_how_much_of_its_message_came(rt: HostRuntime) -> Result<(), Fail> {
+    let messages = [FLAGS, OPTION_9, LIST, GO_3, READ_512, WRITE_ABC, DISC];
+    let mut before = Vec::new(rt.alloc());
+    for message in messages {
+        assert!(rt; is_cut(rt.alloc(), before.as_slice(), message)?);
+        before.extend_from_slice(message)?;
+    }
     Ok(())
 }
 
 #[test]
-fn another_name_than_the_empty_one_is_refused(rt: HostRuntime) -> Result<(), Fail> {
+fn the_fault_of_a_flush_is_that_of_a_write_with_fua(rt: HostRuntime) -> Result<(), Fail> {
     let mut room = vec![in rt.alloc(); 0; 33_554_432]?;
-    let bytes = b"\x00\x00\x00\x03IHAVEOPT\x00\x00\x00\x01\x00\x00\x00\x01a";
-    let refused = is_refused(
+    let failed = Some(LinkFault::Failed { status: 503 });
+    let nothing =
+        b"\x25\x60\x95\x13\x00\x01\x00\x01\x00\x00\x00\x00\x00\x00\x00\x04\x00\x00\x00\x00\x00\x00\x00\x00\x00\x00\x00\x00";
+    let mut source = source_of(rt.alloc(), &[OPENING, nothing.as_slice(), DISC], 4096)?;
+    let mut sink = sink_for(rt.alloc(), 9);
+    let end = run(
         rt.alloc(),
-        &[bytes.as_slice()],
-        GREETING,
+        failed,
+        false,
+        &mut source,
+        &mut sink,
         room.as_mut_slice(),
     )?;
-    assert!(rt; refused);
+    assert_eq!(rt; end, Some(SessionEnd::Disconnected));
+    let told = reply(5, 4);
+    let wanted = joined(rt.alloc(), &[HANDSHAKE, told.as_slice()])?;
+    assert!(rt; sink.bytes == wanted);
     Ok(())
 }
 
@@ -544,11 +774,12 @@ fn a_source_that_fails_ends_the_session_so(rt: HostRuntime) -> Result<(), Fail> 
     let end = run(
         rt.alloc(),
         None,
+        false,
         &mut source,
         &mut sink,
         room.as_mut_slice(),
     )?;
-    assert_eq!(rt; end, Some(SessionEnd::ReadFault));
+    assert_eq!(rt; end, Some(SessionEnd::Fault(NbdEnd::ReadFault)));
     let replies = replies(rt.alloc(), 0)?;
     let wanted = joined(rt.alloc(), &[HANDSHAKE, replies.as_slice()])?;
     assert!(rt; sink.bytes == wanted);
@@ -564,11 +795,12 @@ fn a_sink_that_fails_ends_the_session_so(rt: HostRuntime) -> Result<(), Fail> {
     let end = run(
         rt.alloc(),
         None,
+        false,
         &mut source,
         &mut sink,
         room.as_mut_slice(),
     )?;
-    assert_eq!(rt; end, Some(SessionEnd::WriteFault));
+    assert_eq!(rt; end, Some(SessionEnd::Fault(NbdEnd::WriteFault)));
     let head = reply(0, 3);
     let wanted = joined(rt.alloc(), &[HANDSHAKE, head.as_slice()])?;
     assert!(rt; sink.bytes == wanted);

@@ -5,7 +5,7 @@ use Rattle.sb_session.proofs.transmission.transmit.Goals as goal
 pub loop-count-init : goal.loop-count-init
 loop-count-init g c = record {
   ready = c.requires.ready;
-  served = serves_nothing _ _ _ (g.D.Calls.did_nothing c.args.disk.now c.args.desk.now);
+  served = serves_nothing _ _ _ _ (g.D.Calls.did_nothing c.args.disk.now c.args.desk.now);
   source = omega arith;
   sink = omega arith;
   base = refl;
@@ -19,7 +19,7 @@ loop-count-preserved g c =
     let one = rw before.base at more.told in
     record {
       ready = more.ready;
-      served = serves_both _ _ _ _ _ _ _ _ _
+      served = serves_both _ _ _ _ _ _ _ _ _ _
           (g.D.Calls.did_both c.args.disk.now c.args.desk.now c.loop-count.disk c.loop-count.desk
           c.turn.new.disk c.turn.new.desk) before.served one;
       source = omega (arith, before.source, more.read_cause.later);
@@ -37,7 +37,7 @@ returns-in-Err-clause-told g c =
       within = omega (arith, more.within, c.loop-count-test.true);
       spent = λ e. absurd (more.unspent e);
       unspent = λ e. inr (more.one (omega (arith, e, more.within, c.loop-count-test.true)));
-      stopped = stopped_after _ _ _ _ _ _ _ _ _ _
+      stopped = stopped_after _ _ _ _ _ _ _ _ _ _ _
           (g.D.Calls.did_both c.args.disk.now c.args.desk.now c.loop-count.disk c.loop-count.desk
           c.turn.new.disk c.turn.new.desk) before.served more.stopped;
     }
