@@ -4,3 +4,5 @@ pub mod Readings
 pub mod Items
 pub mod Listings
 pub mod Laws
+pub mod Statuses
+pub mod Courses

@@ -1,0 +1,4 @@
+pub mod Sites
+pub mod Operations
+pub mod Heads
+pub mod Requests
