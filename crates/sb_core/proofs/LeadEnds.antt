@@ -1,15 +1,13 @@
 -- Where the ends of GETs and PUTs lead.
-use Rattle.std.proofs.Common.{ℕ, ◌≡◌, ◌≢◌, ◌<◌, Bool, true, false, nat_eq, if◌then◌else◌, List, Option, Some, None, is_some}
+use Rattle.std.proofs.Common.{ℕ, ◌≡◌, ◌≢◌, ◌<◌, Bool, true, false, List, Option, Some, None, is_some}
 use Rattle.std.proofs.Common.{refl, sym, ◌∙◌, ap, subst}
 use Rattle.std.specs.FinMap.{get}
-use Rattle.std.specs.Str.{bytes_eq}
 use Rattle.sb_base.specs.declared.settings.Settings.{Settings}
 use Rattle.sb_base.specs.declared.line.Expect.{Expect}
 use Rattle.sb_blocks.specs.declared.cached.OpenGet.{OpenGet}
 use Rattle.sb_blocks.specs.declared.cached.OpenPut.{OpenPut}
 use Rattle.sb_blocks.specs.declared.cached.State.{State}
 use Rattle.sb_blocks.specs.declared.cached.State.TheVariants.{Reading, Clean, Dirty, Writing, Writing2}
-use Rattle.sb_blocks.specs.declared.cached.Cached.{Cached}
 use Rattle.sb_blocks.specs.Cached.{get_in, get_by, put_in, passes, is_dirty}
 use Rattle.sb_blocks.specs.Moves.{taken, put_ended}
 use Rattle.sb_blocks.specs.Calls.{EndsRead}
@@ -20,12 +18,12 @@ use Rattle.sb_core.specs.declared.step.GetDone.TheVariants as done
 use Rattle.sb_core.specs.Progress.{events_until_clean, events_by_state, steps_left_in}
 use Rattle.sb_core.specs.Judging.{judged, is_taken, IsStaleByWindow}
 use Rattle.sb_core.specs.Cores.{TakesAnswer, EndsWrite}
-use Rattle.sb_core.specs.Leads.{AllIdle, IsIdle, IsIdleBut, IsCloser, IsDirty, KeepsOthers, LeavesMissing, LeavesNothing}
+use Rattle.sb_core.specs.Leads.{AllIdle, IsIdle, IsIdleBut, IsCloser, IsDirty, KeepsOthers, LeavesNothing}
 use Rattle.sb_core.specs.Leads.{steps_left}
 use Rattle.sb_core.proofs.Maps.{get_same, get_other, gone_other}
 use Rattle.sb_core.proofs.Changing.{changed}
 use Rattle.sb_core.proofs.Progressing.{closer_taken}
-use Rattle.sb_core.proofs.Endings.{asked_entry, put_entry}
+use Rattle.sb_core.proofs.Endings.{asked_entry}
 use Rattle.sb_core.proofs.Leading.{idle_set, idle_gone, ended_closer, ended_idle, failed_dirty}
 
 -- the block of which a GET ends is idle

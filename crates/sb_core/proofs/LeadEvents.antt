@@ -1,53 +1,43 @@
 -- Where each event of a core leads.
-use Rattle.std.proofs.Common.{ℕ, ◌≡◌, ◌<◌, ◌≤◌, Bool, true, false, nat_eq, not, ◌&&◌, nat_le, if◌then◌else◌, List}
-use Rattle.std.proofs.Common.{Option, Some, None, is_none, is_some, Result, Ok, Err, refl, sym, ◌∙◌, ap, subst, arith}
+use Rattle.std.proofs.Common.{ℕ, ◌≡◌, ◌<◌, Bool, true, false, nat_eq, not, ◌&&◌, nat_le, List}
+use Rattle.std.proofs.Common.{Option, Some, None, is_none, Result, Ok, Err, refl, sym, ◌∙◌, ap, subst, arith}
 use Rattle.std.proofs.lemmas.Bool.Decides.{nat_tests}
 use Rattle.std.specs.Prelude.{nat_lt}
 use Rattle.std.specs.Ordering.{nat_cmp}
 use Rattle.std.specs.FinMap.{get, len, empty, get-empty}
-use Rattle.md5.specs.Md5.{md5}
 use Rattle.sb_base.specs.declared.settings.Settings.{Settings}
 use Rattle.sb_base.specs.declared.part.Part.{Part}
 use Rattle.sb_base.specs.declared.line.Why.{Why}
-use Rattle.sb_base.specs.declared.line.Why.TheVariants.{Busy, Spaced, WindowFull, NoRoom}
-use Rattle.sb_window.specs.Windows as windows
-use Rattle.sb_window.specs.Windows.{WindowState, expected}
+use Rattle.sb_base.specs.declared.line.Why.TheVariants.{Busy}
+use Rattle.sb_window.specs.Windows.{expected}
 use Rattle.sb_blocks.specs.declared.cached.OpenGet.{OpenGet}
-use Rattle.sb_blocks.specs.declared.cached.OpenPut.{OpenPut}
 use Rattle.sb_blocks.specs.declared.cached.State.{State}
 use Rattle.sb_blocks.specs.declared.cached.State.TheVariants.{Reading, Clean, Dirty, Writing, Writing2}
 use Rattle.sb_blocks.specs.declared.cached.Cached.{Cached}
-use Rattle.sb_blocks.specs.Cached.{get_in, get_by, put_in, put_by, passes, is_dirty, is_clean, is_held}
-use Rattle.sb_blocks.specs.Moves.{touched, written, first_written, asked, taken, put_begun, put_ended}
-use Rattle.sb_blocks.specs.Calls.{MayWritePart, EndsRead}
-use Rattle.sb_blocks.specs.Caches.{CachedBlocks, CacheState, with_entry, without, count_in, after_write}
-use Rattle.sb_blocks.specs.Orders.{rank_of, writing_rank, FirstBlockIs}
+use Rattle.sb_blocks.specs.Cached.{get_in, put_in, passes, is_dirty, is_clean, is_held}
+use Rattle.sb_blocks.specs.Moves.{touched, written, first_written, asked, put_begun}
+use Rattle.sb_blocks.specs.Caches.{CachedBlocks, CacheState, without, count_in, after_write}
+use Rattle.sb_blocks.specs.Orders.{rank_of, writing_rank}
 use Rattle.sb_history.specs.Contents.{zeros, overlay}
 use Rattle.sb_core.specs.declared.machine.Core.{Core}
 use Rattle.sb_core.specs.declared.job.GetJob.{GetJob}
 use Rattle.sb_core.specs.declared.job.PutJob.{PutJob}
 use Rattle.sb_core.specs.declared.room.Room.{Room}
 use Rattle.sb_core.specs.declared.room.Room.TheVariants as room
-use Rattle.sb_core.specs.declared.step.ReadStep.{ReadStep}
-use Rattle.sb_core.specs.declared.step.ReadStep.TheVariants as read
 use Rattle.sb_core.specs.declared.step.WriteStep.{WriteStep}
-use Rattle.sb_core.specs.declared.step.WriteStep.TheVariants as write
-use Rattle.sb_core.specs.declared.step.FlushStep.{FlushStep}
-use Rattle.sb_core.specs.declared.step.FlushStep.TheVariants as flush
-use Rattle.sb_core.specs.Progress.{events_until_clean, events_by_state, steps_left_in}
-use Rattle.sb_core.specs.Cores.{Ticks, Stays, StartsPut, StartsGet, ReadsHeld, TakesAnswer, EndsWrite}
+use Rattle.sb_core.specs.Progress.{events_until_clean, steps_left_in}
+use Rattle.sb_core.specs.Cores.{Stays, StartsPut, StartsGet, ReadsHeld}
 use Rattle.sb_core.specs.Steps.{HasGet, HasPut}
 use Rattle.sb_core.specs.Writing.{is_too_dirty, WritesPart}
 use Rattle.sb_core.specs.WriteSteps.{write_put, write_room}
-use Rattle.sb_core.specs.Leads.{is_idle_by, is_idle_in, AllIdle, OthersIdle, IsIdle, IsIdleBut, KeepsRequests, KeepsOpen}
-use Rattle.sb_core.specs.Leads.{KeepsOthers, IsCloser, steps_left, LeadsToGet, LeadsToPut, LeadsOn, LeadsToEnd, LeadsToWait}
-use Rattle.sb_core.specs.Leads.{WaitsForWindow, ReadLeads, WriteLeads, FlushLeads, IsOwing, PutLeads, DirtyLeads, RoomLeads}
-use Rattle.sb_core.proofs.Maps.{get_same, get_other, gone_other}
+use Rattle.sb_core.specs.Leads.{is_idle_by, is_idle_in, AllIdle, OthersIdle, KeepsRequests, KeepsOpen}
+use Rattle.sb_core.specs.Leads.{LeadsToGet, LeadsToPut, LeadsToEnd, LeadsToWait}
+use Rattle.sb_core.specs.Leads.{WriteLeads, PutLeads, DirtyLeads, RoomLeads}
 use Rattle.sb_core.proofs.Changing.{changed, dirty_is}
-use Rattle.sb_core.proofs.Progressing.{closer_asked, closer_taken, closer_dropped}
+use Rattle.sb_core.proofs.Progressing.{closer_asked, closer_dropped}
 use Rattle.sb_core.proofs.Leading.{idle_others, idle_set, idle_gone, idle_but, keeps_same, keeps_fresh, keeps_gone, keeps_held}
-use Rattle.sb_core.proofs.Leading.{undone, dirty_requests, clean_requests, begun_closer, ended_closer, ended_idle}
-use Rattle.sb_core.proofs.Leading.{failed_dirty, written_idle, written_requests}
+use Rattle.sb_core.proofs.Leading.{undone, dirty_requests, clean_requests, begun_closer}
+use Rattle.sb_core.proofs.Leading.{written_idle, written_requests}
 use Rattle.sb_core.proofs.Awaiting.{owing_waits, dirty_counted}
 
 -- a new cache
@@ -269,76 +259,3 @@ pub write_room_leads : (old new : Core) (pass block : ℕ) (out : List ℕ) (mad
 write_room_leads old new pass block out (room.Dropped dropped) step is missing leads = rw is (leads block missing)
 write_room_leads old new pass block out (room.Put job) step is missing leads = rw is leads
 write_room_leads old new pass block out (room.Wait why) step is missing leads = rw is leads
-
--- the same from before the reading rose
-module _ (old mid new : Core) (now place : ℕ) (ticks : Ticks old mid now place) where
-  idle_since : IsIdle old → IsIdle mid
-  idle_since idle = subst (λ (c : CacheState). AllIdle c.cached) (sym ticks.blocks) idle
-
-  pub since_keeps : KeepsOpen mid new → KeepsOpen old new
-  since_keeps keeps = subst (λ (c : CacheState). KeepsRequests c.cached new.blocks.cached) ticks.blocks keeps
-
-  pub since_closer : IsCloser mid new → IsCloser old new
-  since_closer closer b =
-      subst (λ (c : CacheState). steps_left_in new.blocks b < steps_left_in c b) ticks.blocks (closer b)
-
-  pub since_end : LeadsToEnd mid new → LeadsToEnd old new
-  since_end leads = record { idle = λ idle. leads.idle (idle_since idle); window = leads.window ∙ ticks.window }
-
-  pub since_get : (pass block : ℕ) (job : GetJob) → LeadsToGet mid new pass block job
-      → LeadsToGet old new pass block job
-  since_get pass block job leads = record {
-    same_block = leads.same_block;
-    begun = leads.begun;
-    reading = leads.reading;
-    closer = subst (λ (c : CacheState). steps_left_in new.blocks block < steps_left_in c block) ticks.blocks leads.closer;
-    expects = leads.expects ∙ ap (λ (w : WindowState). expected w block new.reading) ticks.window;
-    verify = leads.verify;
-    undone = leads.undone ∙ ticks.blocks;
-    window = leads.window ∙ ticks.window;
-    idle = λ idle. leads.idle (idle_since idle);
-  }
-
-  pub since_put : (pass : ℕ) (out : List ℕ) (job : PutJob) → LeadsToPut mid new pass out job
-      → LeadsToPut old new pass out job
-  since_put pass out job leads = record {
-    begun = leads.begun;
-    closer = since_closer leads.closer;
-    window = leads.window
-        ∙ ap (λ (w : WindowState). windows.begun w job.block new.reading (md5 out)) ticks.window;
-    idle = λ idle. leads.idle (idle_since idle);
-  }
-
-  pub since_on : (block : ℕ) → LeadsOn mid new block → LeadsOn old new block
-  since_on block leads = record {
-    idle = λ idle. leads.idle (idle_since idle);
-    closer = subst (λ (c : CacheState). steps_left_in new.blocks block < steps_left_in c block) ticks.blocks leads.closer;
-    window = leads.window ∙ ticks.window;
-  }
-
-  waits_since : (mark : Option ℕ) (why : Why) → WaitsForWindow mark mid new why → WaitsForWindow mark old new why
-  waits_since mark why waits = record {
-    on = waits.on;
-    until = waits.until;
-    reason = waits.reason;
-    in_time = waits.in_time;
-    ahead = waits.ahead;
-    waits = rw (← ticks.blocks, ← ticks.window) waits.waits;
-    later = waits.later;
-  }
-
-  pub since_wait : (mark : Option ℕ) (why : Why) → LeadsToWait mark mid new why → LeadsToWait mark old new why
-  since_wait mark why leads = record {
-    blocks = leads.blocks ∙ ticks.blocks;
-    window = leads.window ∙ ticks.window;
-    idle = λ idle. waits_since mark why (leads.idle (idle_since idle));
-    off = leads.off;
-  }
-
-  pub since_write : (pass block : ℕ) (out : List ℕ) (step : WriteStep) → WriteLeads mid new pass block out step
-      → WriteLeads old new pass block out step
-  since_write pass block out write.Done leads = since_end leads
-  since_write pass block out (write.Wait why) leads = since_wait None why leads
-  since_write pass block out (write.Get job) leads = since_get pass block job leads
-  since_write pass block out (write.Dropped dropped) leads = since_on block leads
-  since_write pass block out (write.Put job) leads = since_put pass out job leads

@@ -1,21 +1,20 @@
 -- Where each change of a cache leads: what is open, and how many events are left.
-use Rattle.std.proofs.Common.{ℕ, ◌≡◌, ◌+◌, ◌<◌, ◌≤◌, Bool, true, false, nat_eq, if◌then◌else◌, Option, Some, None, is_some}
+use Rattle.std.proofs.Common.{ℕ, ◌≡◌, ◌<◌, ◌≤◌, Bool, true, false, nat_eq, Option, Some, None}
 use Rattle.std.proofs.Common.{refl, sym, ◌∙◌, ap, subst, arith}
 use Rattle.std.proofs.lemmas.Bool.{eqb-true}
 use Rattle.std.specs.Cmp.{nat_cmp_total}
-use Rattle.std.specs.Prelude.{nat_lt}
-use Rattle.std.specs.FinMap.{get, len, insert, remove, same_map, nat_cmp-IsAntisymmetric}
+use Rattle.std.specs.FinMap.{get, insert, remove, same_map, nat_cmp-IsAntisymmetric}
 use Rattle.sb_blocks.specs.declared.cached.OpenGet.{OpenGet}
 use Rattle.sb_blocks.specs.declared.cached.OpenPut.{OpenPut}
 use Rattle.sb_blocks.specs.declared.cached.State.{State}
 use Rattle.sb_blocks.specs.declared.cached.State.TheVariants.{Reading, Clean, Dirty, Writing, Writing2}
 use Rattle.sb_blocks.specs.declared.cached.Cached.{Cached}
-use Rattle.sb_blocks.specs.Cached.{get_in, get_by, put_in, put_by, passes, is_dirty, is_clean, is_held}
+use Rattle.sb_blocks.specs.Cached.{get_in, get_by, put_in, put_by, passes, is_dirty, is_clean}
 use Rattle.sb_blocks.specs.Moves.{state_written, put_begun, put_ended, state_put_ended}
 use Rattle.sb_blocks.specs.Caches.{CachedBlocks, CacheState, with_entry, without}
 use Rattle.sb_core.specs.Progress.{events_until_clean, events_by_state, steps_left_in}
 use Rattle.sb_core.specs.Leads.{is_idle_by, is_idle_in, AllIdle, OthersIdle, KeepsRequests}
-use Rattle.sb_core.proofs.Maps.{inserted, removed, get_same, get_other, gone_same, gone_other}
+use Rattle.sb_core.proofs.Maps.{inserted, removed, get_other, gone_same, gone_other}
 use Rattle.sb_core.proofs.Progressing.{closer_held}
 
 -- what is idle after an edit

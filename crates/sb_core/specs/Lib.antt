@@ -13,3 +13,5 @@ pub mod Requests
 pub mod Jobs
 pub mod Progress
 pub mod Leads
+pub mod Causes
+pub mod Trials

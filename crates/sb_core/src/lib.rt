@@ -12,6 +12,11 @@ mod step;
 mod writes;
 
 pub use job::{GetJob, Mark, PutJob};
-pub use laws::get_undone;
+pub use laws::{flushes_have_causes, get_undone, reads_have_causes, writes_have_causes};
 pub use machine::Core;
 pub use step::{FlushStep, GetDone, ReadStep, WriteStep};
+
+#[cfg(test)]
+mod tests;
+#[cfg(test)]
+mod trials;

@@ -110,11 +110,11 @@ impl Core {
         if self.blocks.free() == 0 {
             return room_step(self.make_room(pass, out));
         }
-        if !self.is_whole(part) {
-            return WriteStep::Get(self.begin_get(pass, part.block));
+        if self.is_whole(part) {
+            self.write_part(place, part, bytes);
+            return WriteStep::Done;
         }
-        self.write_part(place, part, bytes);
-        WriteStep::Done
+        WriteStep::Get(self.begin_get(pass, part.block))
     }
 
     /// Writes a part of a block that is held, or a whole block where an entry is free.

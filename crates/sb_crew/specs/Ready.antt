@@ -3,6 +3,7 @@ use Rattle.std.specs.Prelude.{ℕ, ◌≡◌}
 use Rattle.sb_core.specs.declared.machine.Core.{Core}
 use Rattle.sb_core.specs.Cores.{geometry_of, reading_of}
 use Rattle.sb_core.specs.Leads.{IsIdle}
+
 -- no request is open, the caller knows the greatest reading, and its buffer holds one block
 pub record IsReady (core : Core) (reading room : ℕ) : Type 0 where
   pub idle : IsIdle core

@@ -3,6 +3,7 @@
 ghost use Rattle.std.specs.Prelude.{◌≡◌, ◌≤◌, ◌^◌, length, vec_len};
 ghost use Rattle.sb_base.specs.Lines.{entry_kind_of};
 ghost use Rattle.sb_core.specs.Flushing.{flush_kind};
+
 use crate::alone::{Alone, PASS};
 use crate::calls::FlushFault;
 use crate::desk::Desk;

@@ -1,6 +1,8 @@
 //! A disk for one caller over a store that shows old versions: what rows and tables over random versions are made of.
 #![tactic(auto)]
 
+#[cfg(test)]
+mod cached_tests;
 mod choices;
 mod disks;
 mod draws;
@@ -9,6 +11,8 @@ mod plays;
 mod shared;
 mod steps;
 mod stores;
+#[cfg(test)]
+mod table_tests;
 mod tally;
 #[cfg(test)]
 mod tests;

@@ -1,8 +1,8 @@
-//! Rows entry by entry and tick by tick, and tables over random versions.
+//! Rows of a disk that caches one block, entry by entry and tick by tick.
 
 ghost use Rattle.std.specs.Prelude.{◌≡◌, IfOk, vec_len};
 ghost use Rattle.sb_core.specs.Cores.{geometry_of};
-ghost use Rattle.sb_crew.specs.Disks.{core_of, IsReadyWith};
+ghost use Rattle.sb_crew.specs.Disks.{core_of};
 ghost use Rattle.sb_crew.specs.Ready.{IsReady};
 ghost use Rattle.test_stale_reads.specs.declared.disks.TheConstants.{GEOMETRY};
 
@@ -10,8 +10,7 @@ use crate::Step::{
     Dropped, FlushBegin, FlushDone, GetBegin, GetEnd, PutBegin, PutEnd, Read, Waited, Write,
 };
 use crate::{
-    BLOCK, Ended, SIZE, Showing, Step, Tally, desk_over, disk_with, fail_as_planned, first_block,
-    flushes, lines_of, play, reads, writes,
+    BLOCK, SIZE, Step, desk_over, disk_with, first_block, flushes, lines_of, reads, writes,
 };
 use sb_base::{Settings, Why};
 use sb_crew::{Alone, CallFault, Desk};
@@ -24,7 +23,7 @@ use std::cell::Cell;
 use std::test::Fail;
 
 /// Puts are spaced by 500 ms, MD5s are kept for 10 s, and a GET is stale for good 5 s after the put.
-const SETTINGS: Settings = Settings {
+pub(crate) const SETTINGS: Settings = Settings {
     min_write_delay: 500,
     md5_time: 10_000,
     md5_size: 10_000,
@@ -50,19 +49,17 @@ const B_DIGEST: [u8; 16] = [
 ];
 
 /// The bytes of the blocks.
-const A: u8 = b'A';
+pub(crate) const A: u8 = b'A';
 
-const B: u8 = b'B';
+pub(crate) const B: u8 = b'B';
 
-const C: u8 = b'C';
-
-const D: u8 = b'D';
+pub(crate) const C: u8 = b'C';
 
 /// A put that the store refused.
-const UNAVAILABLE: CallFault = CallFault::StoreFault { status: 503 };
+pub(crate) const UNAVAILABLE: CallFault = CallFault::StoreFault { status: 503 };
 
 /// A disk with no event behind it.
-fn disk(alloc: Global, settings: Settings) -> Result<Alone<RecordTape>, Fail>
+pub(crate) fn disk(alloc: Global, settings: Settings) -> Result<Alone<RecordTape>, Fail>
     ensures shape { IfOk result (λ disk. geometry_of (core_of disk) ≡ GEOMETRY) }
     ensures ready { IfOk result (λ disk. IsReady disk.core disk.reading 512) }
 {
@@ -71,7 +68,7 @@ fn disk(alloc: Global, settings: Settings) -> Result<Alone<RecordTape>, Fail>
 }
 
 /// A desk at 1,000 over a store whose block 0 is `A`.
-fn desk(
+pub(crate) fn desk(
     alloc: Global,
     shows: &[Show],
     fails: &[u64],
@@ -85,7 +82,7 @@ fn desk(
 }
 
 /// The lines of a tape.
-fn lines(alloc: Global, tape: &RecordTape) -> Result<Vec<(u64, Step)>, AllocError> {
+pub(crate) fn lines(alloc: Global, tape: &RecordTape) -> Result<Vec<(u64, Step)>, AllocError> {
     match tape.entries() {
         Some(entries) => lines_of(alloc, entries),
         None => Err(AllocError),
@@ -93,7 +90,7 @@ fn lines(alloc: Global, tape: &RecordTape) -> Result<Vec<(u64, Step)>, AllocErro
 }
 
 /// Whether the store was stale only within a delay, on a tape of a disk that began as this.
-fn is_within(
+pub(crate) fn is_within(
     alloc: Global,
     start: &[u8],
     delay: u64,
@@ -110,7 +107,7 @@ fn is_within(
 }
 
 /// What the disks of the rows begin with: block 0 is `A`.
-fn start(alloc: Global) -> Result<Vec<u8>, AllocError> {
+pub(crate) fn start(alloc: Global) -> Result<Vec<u8>, AllocError> {
     let mut bytes = Vec::new(alloc);
     bytes.resize(512, A)?;
     bytes.resize(SIZE, 0)?;
@@ -118,7 +115,7 @@ fn start(alloc: Global) -> Result<Vec<u8>, AllocError> {
 }
 
 /// Whether the store was stale only within two delays, on a tape of such a disk.
-fn are_within(
+pub(crate) fn are_within(
     alloc: Global,
     delays: (u64, u64),
     tape: &RecordTape,
@@ -404,387 +401,5 @@ fn a_clock_that_stands_still_is_a_fault(rt: HostRuntime) -> Result<(), Fail> {
     assert_eq!(rt; lines(rt.alloc(), &tape)?.as_slice(), want.as_slice());
     let want = [(7, Taken(1000)), (1, Paused(500)), (1, Taken(1000))];
     assert_eq!(rt; ticks_of(&desk), ticks(rt.alloc(), &want)?.as_slice());
-    Ok(())
-}
-
-/// A cache of two blocks.
-const TWO_BLOCKS: Settings = Settings {
-    cache_size: 2,
-    ..SETTINGS
-};
-
-/// A call of a disk.
-#[derive(Drop, Clone, Copy)]
-enum Call {
-    /// Writes a byte all over a block.
-    Writes(u32, u8),
-    /// Reads a block.
-    Reads(u32),
-    Flushes,
-}
-
-/// What a call answers: a read the byte that fills the block, if one does.
-type Answer = Result<Option<u8>, CallFault>;
-
-/// The answer of a call that gives no byte.
-fn done(called: Result<(), CallFault>) -> Answer {
-    match called {
-        Ok(()) => Ok(None),
-        Err(fault) => Err(fault),
-    }
-}
-
-/// Makes a call. The blocks are those of the disk by their number modulo four.
-fn make(disk: &mut Alone<RecordTape>, desk: &mut Desk<TimedStore, HandClock>, call: Call) -> Answer
-    requires ready { IsReadyWith disk.old desk.old }
-    requires shape { geometry_of (core_of disk.old) ≡ GEOMETRY }
-    ensures ready { IsReadyWith disk.new desk.new }
-    ensures shape { geometry_of (core_of disk.new) ≡ GEOMETRY }
-{
-    match call {
-        Call::Writes(block, byte) => done(writes(disk, desk, block % 4, byte)),
-        Call::Reads(block) => reads(disk, desk, block % 4),
-        Call::Flushes => done(flushes(disk, desk)),
-    }
-}
-
-/// Makes calls one after the other.
-fn make_all(
-    alloc: Global,
-    disk: &mut Alone<RecordTape>,
-    desk: &mut Desk<TimedStore, HandClock>,
-    calls: &[Call],
-) -> Result<Vec<Answer>, AllocError>
-    requires ready { IsReadyWith disk.old desk.old }
-    requires shape { geometry_of (core_of disk.old) ≡ GEOMETRY }
-    ensures ready { IsReadyWith disk.new desk.new }
-{
-    let mut answers = Vec::new(alloc);
-    for call in calls {
-        answers.push(make(disk, desk, *call))?;
-    }
-    Ok(answers)
-}
-
-/// What calls of a new disk answer, and its tape.
-fn called(
-    alloc: Global,
-    settings: Settings,
-    desk: &mut Desk<TimedStore, HandClock>,
-    calls: &[Call],
-) -> Result<(Vec<Answer>, RecordTape), Fail>
-    requires { vec_len desk.old.room ≡ 512 }
-    ensures { vec_len desk.new.room ≡ 512 }
-{
-    let mut disk = disk(alloc, settings)?;
-    let answers = make_all(alloc, &mut disk, desk, calls);
-    let (_core, tape) = disk.finish();
-    Ok((answers?, tape))
-}
-
-/// Whether calls of a disk, over a store whose requests of these numbers fail, answer so and leave these lines.
-fn leaves(
-    alloc: Global,
-    settings: Settings,
-    fails: &[u64],
-    calls: &[Call],
-    answers: &[Answer],
-    left: &[(u64, Step)],
-) -> Result<bool, Fail> {
-    let mut desk = desk(alloc, &[], fails, false)?;
-    let (said, tape) = called(alloc, settings, &mut desk, calls)?;
-    Ok(said.as_slice() == answers && lines(alloc, &tape)?.as_slice() == left)
-}
-
-// The MD5 window has one entry, which the put of block 0 has for 10 s, and the cache has two.
-#[test]
-fn a_full_window_is_waited_for_and_cached_blocks_are_not_asked_for(
-    rt: HostRuntime,
-) -> Result<(), Fail> {
-    let one_entry = Settings {
-        md5_size: 1,
-        ..TWO_BLOCKS
-    };
-    let calls = [
-        Call::Writes(0, B),
-        Call::Writes(1, C),
-        Call::Flushes,
-        Call::Reads(0),
-        Call::Reads(1),
-    ];
-    let answers = [Ok(None), Ok(None), Ok(None), Ok(Some(B)), Ok(Some(C))];
-    let left = [
-        (1000, Write(0, B)),
-        (1000, Write(1, C)),
-        (1000, FlushBegin(0)),
-        (1000, PutBegin(0, B)),
-        (1000, PutEnd(0, true)),
-        (1000, Waited(Why::WindowFull(11_000))),
-        (11_000, PutBegin(1, C)),
-        (11_000, PutEnd(1, true)),
-        (11_000, FlushDone(0)),
-        (11_000, Read(0, B)),
-        (11_000, Read(1, C)),
-    ];
-    assert!(rt; leaves(rt.alloc(), one_entry, &[], &calls, &answers, &left)?);
-    Ok(())
-}
-
-// The third block is written over two dirty ones. The put of the first fails, which ends the write.
-#[test]
-fn a_write_puts_what_makes_room_and_fails_with_it(rt: HostRuntime) -> Result<(), Fail> {
-    let calls = [
-        Call::Writes(0, B),
-        Call::Writes(1, C),
-        Call::Writes(2, A),
-        Call::Writes(2, A),
-    ];
-    let answers = [Ok(None), Ok(None), Err(UNAVAILABLE), Ok(None)];
-    let left = [
-        (1000, Write(0, B)),
-        (1000, Write(1, C)),
-        (1000, PutBegin(0, B)),
-        (1000, PutEnd(0, false)),
-        (1000, PutBegin(1, C)),
-        (1000, PutEnd(1, true)),
-        (1000, Dropped(1)),
-        (1000, Write(2, A)),
-    ];
-    assert!(rt; leaves(rt.alloc(), TWO_BLOCKS, &[1], &calls, &answers, &left)?);
-    Ok(())
-}
-
-// At most one block of two may be dirty. The put of the first fails, and is spaced.
-#[test]
-fn a_write_over_too_many_dirty_blocks_puts_one(rt: HostRuntime) -> Result<(), Fail> {
-    let one_dirty = Settings {
-        max_dirty: 1,
-        ..TWO_BLOCKS
-    };
-    let calls = [
-        Call::Writes(0, B),
-        Call::Writes(1, C),
-        Call::Writes(1, C),
-        Call::Writes(1, A),
-    ];
-    let answers = [Ok(None), Err(UNAVAILABLE), Ok(None), Ok(None)];
-    let left = [
-        (1000, Write(0, B)),
-        (1000, PutBegin(0, B)),
-        (1000, PutEnd(0, false)),
-        (1000, Waited(Why::Spaced(1500))),
-        (1500, PutBegin(0, B)),
-        (1500, PutEnd(0, true)),
-        (1500, Write(1, C)),
-        (1500, Write(1, A)),
-    ];
-    assert!(rt; leaves(rt.alloc(), one_dirty, &[1], &calls, &answers, &left)?);
-    Ok(())
-}
-
-#[test]
-fn a_flush_of_nothing_dirty_asks_the_store_nothing(rt: HostRuntime) -> Result<(), Fail> {
-    let left = [(1000, FlushBegin(0)), (1000, FlushDone(0))];
-    assert!(rt;
-        leaves(
-            rt.alloc(),
-            TWO_BLOCKS,
-            &[],
-            &[Call::Flushes],
-            &[Ok(None)],
-            &left
-        )?
-    );
-    Ok(())
-}
-
-/// Whether a read shows something else than what was written there.
-fn is_lost(written: Answer, read: Answer, byte: u8) -> bool {
-    match (written, read) {
-        (Ok(_), Ok(shown)) => shown != Some(byte),
-        _ => false,
-    }
-}
-
-/// Whether all calls succeeded.
-fn all_done(answers: &[Answer]) -> bool {
-    answers.iter().all(|answer| answer.is_ok())
-}
-
-// One request fails, the first, the second and so on, until none does. Three blocks are written over a cache of two, and
-// flushed twice: what a write and the second flush covered is read by the next disk over the store.
-#[test]
-fn a_failed_call_loses_nothing_that_a_later_flush_covers(rt: HostRuntime) -> Result<(), Fail> {
-    let calls = [
-        Call::Writes(0, B),
-        Call::Writes(1, C),
-        Call::Writes(2, D),
-        Call::Flushes,
-        Call::Flushes,
-    ];
-    let blocks = [Call::Reads(0), Call::Reads(1), Call::Reads(2)];
-    for fails in 1..20_u64 {
-        let mut desk = desk(rt.alloc(), &[], &[fails], false)?;
-        let (said, _tape) = called(rt.alloc(), TWO_BLOCKS, &mut desk, &calls)?;
-        let (shown, _tape) = called(rt.alloc(), TWO_BLOCKS, &mut desk, &blocks)?;
-        assert_eq!(rt; (said.len(), shown.len()), (5, 3));
-        assert_eq!(rt; said[4], Ok(None));
-        assert!(rt; !is_lost(said[0], shown[0], B), "request {fails}");
-        assert!(rt; !is_lost(said[1], shown[1], C), "request {fails}");
-        assert!(rt; !is_lost(said[2], shown[2], D), "request {fails}");
-        if all_done(&said) && all_done(&shown) {
-            assert_eq!(rt; fails, 7);
-            return Ok(());
-        }
-    }
-    Err(Fail::from("every run met a failure"))
-}
-
-/// A cache of so many blocks, of which so many may be dirty, and a window of so many entries.
-fn sized(cache_size: u32, max_dirty: u32, entries: u32) -> Settings {
-    Settings {
-        cache_size,
-        max_dirty,
-        md5_size: entries,
-        ..SETTINGS
-    }
-}
-
-/// A play of random calls.
-fn played(alloc: Global, seed: u64, settings: Settings, showing: Showing) -> Result<Ended, Fail> {
-    settings.check(Some(4))?;
-    Ok(play(alloc, seed, settings, showing)?)
-}
-
-/// What came up in a play, and whether just the requests failed that were to fail.
-fn tally(ended: &Ended) -> Result<(Tally, bool), AllocError> {
-    match ended.tape.entries() {
-        Some(entries) => Ok((Tally::of(entries), fail_as_planned(entries, &ended.planned))),
-        None => Err(AllocError),
-    }
-}
-
-// A store that is stale for 400 ms, which the spacing of 500 ms and the window of 10 s cover.
-#[test]
-fn reads_are_right_within_a_covered_delay(rt: HostRuntime) -> Result<(), Fail> {
-    for (seed, entries) in [(1, 2), (2, 3), (3, 2), (4, 3)] {
-        let ended = played(rt.alloc(), seed, sized(1, 0, entries), Showing::Within(400))?;
-        let counts = ended.counts;
-        let (tally, planned) = tally(&ended)?;
-        assert_eq!(rt;
-            (counts.wrong, counts.stale, counts.other),
-            (0, 0, 0),
-            "seed {seed}"
-        );
-        assert_eq!(rt;
-            (counts.failed, planned),
-            (tally.failed, true),
-            "seed {seed}"
-        );
-        assert!(rt; counts.right > 0 && tally.refused > 0, "seed {seed}");
-        assert!(rt;
-            tally.failed_puts > 0 && tally.spaced > 0 && tally.full > 0,
-            "seed {seed}"
-        );
-        let start = ended.start.bytes();
-        assert!(rt;
-            is_within(rt.alloc(), start, 400, &ended.tape)?,
-            "seed {seed}"
-        );
-        assert!(rt;
-            !is_within(rt.alloc(), start, 0, &ended.tape)?,
-            "seed {seed}"
-        );
-    }
-    Ok(())
-}
-
-// A store that may show any version.
-#[test]
-fn reads_beyond_the_delay_are_faults_or_outside_the_premise(rt: HostRuntime) -> Result<(), Fail> {
-    for (seed, entries) in [(5, 2), (6, 3), (7, 2), (8, 3)] {
-        let ended = played(rt.alloc(), seed, sized(1, 0, entries), Showing::Any)?;
-        let counts = ended.counts;
-        let (tally, planned) = tally(&ended)?;
-        assert_eq!(rt;
-            (counts.wrong_within, counts.other, planned),
-            (0, 0, true),
-            "seed {seed}"
-        );
-        assert_eq!(rt; counts.failed, tally.failed, "seed {seed}");
-        assert!(rt;
-            counts.right > 0 && counts.wrong > 0 && counts.stale > 0,
-            "seed {seed}"
-        );
-    }
-    Ok(())
-}
-
-/// Caches of several blocks, of which so many may be dirty, with windows of several entries.
-const CACHES: [(u64, u32, u32, u32); 8] = [
-    (9, 2, 0, 3),
-    (10, 2, 1, 1),
-    (11, 2, 2, 2),
-    (12, 3, 0, 2),
-    (13, 3, 1, 3),
-    (14, 3, 2, 2),
-    (15, 16, 1, 2),
-    (16, 16, 0, 1),
-];
-
-// A store that is stale for 400 ms, under caches of several blocks.
-#[test]
-fn larger_caches_read_right_within_a_covered_delay(rt: HostRuntime) -> Result<(), Fail> {
-    let mut refused: u64 = 0;
-    for (seed, cache_size, max_dirty, entries) in CACHES {
-        let settings = sized(cache_size, max_dirty, entries);
-        let ended = played(rt.alloc(), seed, settings, Showing::Within(400))?;
-        let counts = ended.counts;
-        let (tally, planned) = tally(&ended)?;
-        assert_eq!(rt;
-            (counts.wrong, counts.stale, counts.other),
-            (0, 0, 0),
-            "seed {seed}"
-        );
-        assert_eq!(rt;
-            (counts.failed, planned),
-            (tally.failed, true),
-            "seed {seed}"
-        );
-        assert!(rt; counts.right > 0 && tally.failed > 0, "seed {seed}");
-        refused = refused.saturating_add(tally.refused);
-        let start = ended.start.bytes();
-        assert!(rt;
-            is_within(rt.alloc(), start, 400, &ended.tape)?,
-            "seed {seed}"
-        );
-    }
-    assert!(rt; refused > 0);
-    Ok(())
-}
-
-// A store that may show any version, under caches of several blocks.
-#[test]
-fn larger_caches_beyond_the_delay_are_faults_or_outside_the_premise(
-    rt: HostRuntime,
-) -> Result<(), Fail> {
-    let mut beyond: u64 = 0;
-    for (seed, cache_size, max_dirty, entries) in CACHES {
-        let settings = sized(cache_size, max_dirty, entries);
-        let ended = played(rt.alloc(), seed, settings, Showing::Any)?;
-        let counts = ended.counts;
-        let (tally, planned) = tally(&ended)?;
-        assert_eq!(rt;
-            (counts.wrong_within, counts.other, planned),
-            (0, 0, true),
-            "seed {seed}"
-        );
-        assert_eq!(rt; counts.failed, tally.failed, "seed {seed}");
-        assert!(rt; counts.right > 0, "seed {seed}");
-        beyond = beyond
-            .saturating_add(counts.wrong)
-            .saturating_add(counts.stale);
-    }
-    assert!(rt; beyond > 0);
     Ok(())
 }

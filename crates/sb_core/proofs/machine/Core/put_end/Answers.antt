@@ -4,7 +4,7 @@ use Rattle.std.specs.FinMap.{get}
 use Rattle.sb_blocks.specs.Cached.{put_in}
 use Rattle.sb_blocks.specs.Caches.{CacheState}
 use Rattle.sb_core.specs.Leads.{OthersIdle}
-use Rattle.sb_core.proofs.LeadEvents.{since_closer}
+use Rattle.sb_core.proofs.LeadsSince.{since_closer}
 use Rattle.sb_blocks.specs.declared.cached.OpenPut.{OpenPut}
 use Rattle.sb_core.proofs.CoreEvents.{adds_ticked}
 use Rattle.sb_core.proofs.Endings.{put_ends_from}

@@ -3,8 +3,8 @@ use Rattle.std.specs.FinMap.{get, len}
 use Rattle.sb_base.specs.declared.line.Why.TheVariants.{Busy}
 use Rattle.sb_base.specs.declared.entry.EntryKind.TheVariants as kind
 use Rattle.sb_core.proofs.CoreEvents.{adds_ticked, waits_from, get_from, read_from, missing_is, stays_put}
-use Rattle.sb_core.proofs.LeadEvents.{since_keeps, since_end, since_get, since_put, since_on, since_wait}
-use Rattle.sb_core.proofs.LeadEvents.{read_ends, read_keeps, get_leads, get_keeps, busy_waits, asked_open}
+use Rattle.sb_core.proofs.LeadsSince.{since_keeps, since_end, since_get, since_wait}
+use Rattle.sb_core.proofs.LeadEvents.{read_ends, read_keeps, get_leads, get_keeps}
 use Rattle.sb_core.proofs.machine.Core.read.Goals as goal
 
 pub returns-then-holds-clause-represents : goal.returns-then-holds-clause-represents

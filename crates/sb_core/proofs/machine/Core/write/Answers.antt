@@ -5,7 +5,8 @@ use Rattle.sb_base.specs.declared.entry.EntryKind.TheVariants as kind
 use Rattle.sb_core.specs.Writing.{write_kind}
 use Rattle.sb_core.proofs.CoreEvents.{adds_ticked, waits_from, stays_put}
 use Rattle.sb_core.proofs.WriteEvents.{adds_put, write_from, may_held}
-use Rattle.sb_core.proofs.LeadEvents.{since_keeps, since_end, since_write, write_put_leads, write_ends, write_keeps}
+use Rattle.sb_core.proofs.LeadEvents.{write_ends, write_keeps}
+use Rattle.sb_core.proofs.LeadsSince.{since_keeps, since_end}
 use Rattle.sb_core.proofs.machine.Core.write.Goals as goal
 
 pub returns-then-is_missing-clause-represents : goal.returns-then-is_missing-clause-represents

@@ -2,7 +2,7 @@ use Rattle.std.proofs.Common.{arith, ◌<◌, sym}
 use Rattle.std.specs.FinMap.{get, len}
 use Rattle.sb_core.proofs.CoreEvents.{get_from}
 use Rattle.sb_core.proofs.WriteEvents.{adds_put, adds_room, write_from, may_whole}
-use Rattle.sb_core.proofs.LeadEvents.{write_put_leads, write_room_leads, get_leads, get_keeps, write_ends, write_keeps}
+use Rattle.sb_core.proofs.LeadEvents.{get_leads, get_keeps, write_ends, write_keeps}
 use Rattle.sb_core.proofs.machine.Core.write_missing.Goals as goal
 
 pub returns-then-is_too_dirty-clause-adds : goal.returns-then-is_too_dirty-clause-adds
@@ -15,39 +15,39 @@ returns-then-free-eq0-clause-adds c =
     adds_room c.args.self.now c.make_room.new.self c.args.place c.args.pass c.args.part c.args.bytes.now
     c.make_room.new.out c.make_room.result c.room_step.result c.room_step.ensures c.make_room.ensures.adds
 
-pub returns-then-not-is_whole-clause-adds : goal.returns-then-not-is_whole-clause-adds
-returns-then-not-is_whole-clause-adds c before past later next s =
+pub returns-clause-adds : goal.returns-clause-adds
+returns-clause-adds c before past later next s =
     let core = c.args.self.now in
     let free : len core.blocks.cached < core.settings.cache_size =
     omega (arith, c.free.ensures, c.if-free-eq0.false, core.its_cache.room) in
     get_from core c.begin_get.new.self c.args.pass c.args.part.block c.begin_get.result c.begin_get.ensures.starts
     c.requires.missing free c.requires.part.block before c.args.place past later next s
 
-pub returns-clause-adds : goal.returns-clause-adds
-returns-clause-adds c =
+pub returns-then-is_whole-2-clause-adds : goal.returns-then-is_whole-2-clause-adds
+returns-then-is_whole-2-clause-adds c =
     let core = c.args.self.now in
     let free : len core.blocks.cached < core.blocks.room = omega (arith, c.free.ensures, c.if-free-eq0.false) in
     write_from core c.write_part.new.self c.args.place c.args.pass c.args.part c.args.bytes.now c.write_part.ensures
     c.requires.part.block c.requires.part.within c.requires.bytes
     (may_whole core.blocks c.args.part (get core.blocks.cached c.args.part.block) c.requires.missing free
-    (sym c.if-not-is_whole.ensures))
+    (sym c.if-is_whole-2.ensures))
 
-pub returns-then-not-is_whole-clause-leads : goal.returns-then-not-is_whole-clause-leads
-returns-then-not-is_whole-clause-leads c =
+pub returns-clause-leads : goal.returns-clause-leads
+returns-clause-leads c =
     let core = c.args.self.now in
     let free : len core.blocks.cached < core.blocks.room = omega (arith, c.free.ensures, c.if-free-eq0.false) in
     get_leads core c.begin_get.new.self c.args.pass c.args.part.block c.begin_get.result c.begin_get.ensures.starts
     c.requires.missing free c.begin_get.ensures.opens
 
-pub returns-then-not-is_whole-clause-open : goal.returns-then-not-is_whole-clause-open
-returns-then-not-is_whole-clause-open c =
+pub returns-clause-open : goal.returns-clause-open
+returns-clause-open c =
     get_keeps c.args.self.now c.begin_get.new.self c.args.pass c.args.part.block c.begin_get.result
     c.begin_get.ensures.starts c.requires.missing
 
-pub returns-clause-leads : goal.returns-clause-leads
-returns-clause-leads c =
+pub returns-then-is_whole-2-clause-leads : goal.returns-then-is_whole-2-clause-leads
+returns-then-is_whole-2-clause-leads c =
     write_ends c.args.self.now c.write_part.new.self c.args.place c.args.part c.args.bytes.now c.write_part.ensures
 
-pub returns-clause-open : goal.returns-clause-open
-returns-clause-open c =
+pub returns-then-is_whole-2-clause-open : goal.returns-then-is_whole-2-clause-open
+returns-then-is_whole-2-clause-open c =
     write_keeps c.args.self.now c.write_part.new.self c.args.place c.args.part c.args.bytes.now c.write_part.ensures

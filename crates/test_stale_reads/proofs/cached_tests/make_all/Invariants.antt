@@ -2,7 +2,7 @@ use Rattle.std.proofs.Common.{◌≡◌}
 use Rattle.sb_core.specs.Cores.{geometry_of}
 use Rattle.sb_crew.specs.Disks.{core_of, IsReadyWith}
 use Rattle.test_stale_reads.specs.declared.disks.TheConstants.{GEOMETRY}
-use Rattle.test_stale_reads.proofs.tests.make_all.Given as goal
+use Rattle.test_stale_reads.proofs.cached_tests.make_all.Given as goal
 
 -- the next call may be made
 abbrev pub invariant-loop-call : goal.invariant-loop-call
