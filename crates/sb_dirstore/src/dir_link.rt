@@ -1,6 +1,6 @@
 //! A folder as a link.
 
-ghost use Rattle.std.specs.Prelude.{◌≡◌, ◌⊎◌, Ok, Some, [], ◌∷◌, IfSome, IfOk};
+ghost use Rattle.std.specs.Prelude.{◌≡◌, ◌⊎◌, Ok, Some, [], ◌∷◌, IfSome, IfOk, IfErr};
 ghost use Rattle.sb_world.specs.Told.{Gains, CountsFaults, CountsJust};
 ghost use Rattle.sb_world.specs.Folders.{Becomes};
 ghost use Rattle.sb_world.specs.Calls.{get_reply, head_reply, list_reply, fault_of};
@@ -76,6 +76,7 @@ impl<F: Folder> DirLink<F> {
         ensures read { IfSome (F.files self.old.folder) (λ files. Finds verify result out.new (files name.now)) }
         ensures asked { IsAsked result verify }
         ensures unchanged { result ≡ Ok (Got.Same) → out.new ≡ out.old }
+        ensures spared { IfSome verify (λ digest. IfErr result (λ fault. out.new ≡ out.old)) }
         ensures files { F.files self.new.folder ≡ F.files self.old.folder }
         ensures cause { CountsJust (F.faults self.old.folder) (F.faults self.new.folder) (has_folder_failed result) }
         ensures status { IfFailed result (λ status. (status ≡ 600) ⊎ (status ≡ 605)) }
@@ -126,6 +127,7 @@ impl<F: Folder> Link for DirLink<F> {
             (λ files. Finds verify result out.new (objects_of files name.now)) }
         ensures asked { IsAsked result verify }
         ensures unchanged { result ≡ Ok (Got.Same) → out.new ≡ out.old }
+        ensures spared { IfSome verify (λ digest. IfErr result (λ fault. out.new ≡ out.old)) }
         ensures files { F.files (folder_of self.new) ≡ F.files (folder_of self.old) }
         ensures cause { CountsFaults (faults_of self.old) (faults_of self.new) (HasFailed result) }
         ensures count { CountsJust (faults_of self.old) (faults_of self.new) (has_failed result) }

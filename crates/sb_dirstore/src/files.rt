@@ -1,6 +1,6 @@
 //! What a request does to the files of a folder.
 
-ghost use Rattle.std.specs.Prelude.{◌≡◌, ◌≢◌, ◌⊎◌, Ok, Some, None, IfSome, IfOk, length};
+ghost use Rattle.std.specs.Prelude.{◌≡◌, ◌≢◌, ◌⊎◌, Ok, Some, None, IfSome, IfOk, IfErr, length};
 ghost use Rattle.md5.specs.Md5.{md5};
 ghost use Rattle.sb_world.specs.Told.{CountsJust};
 ghost use Rattle.sb_world.specs.Folders.{Becomes};
@@ -60,6 +60,7 @@ pub(crate) fn read_unless_same<F: Folder>(
     requires { length room.old ≡ length out.old }
     ensures read { IfSome (F.files folder.old) (λ files. Finds (Some digest) result out.new (files name.now)) }
     ensures unchanged { result ≡ Ok (Got.Same) → out.new ≡ out.old }
+    ensures spared { IfErr result (λ fault. out.new ≡ out.old) }
     ensures files { F.files folder.new ≡ F.files folder.old }
     ensures cause { CountsJust (F.faults folder.old) (F.faults folder.new) (has_folder_failed result) }
     ensures status { IfFailed result (λ status. (status ≡ 600) ⊎ (status ≡ 605)) }

@@ -1,6 +1,6 @@
 //! What a store in memory keeps of an object.
 
-ghost use Rattle.std.specs.Prelude.{◌≡◌, IfOk, Some, length, decimal};
+ghost use Rattle.std.specs.Prelude.{◌≡◌, IfOk, IfErr, IfSome, Some, length, decimal};
 ghost use Rattle.std.specs.Option.{option_copied};
 ghost use Rattle.md5.specs.Md5.{md5};
 ghost use Rattle.sb_fakes.specs.Objects as objects;
@@ -72,6 +72,7 @@ pub(crate) fn fetch(
 ) -> Result<Got, LinkFault>
     ensures shows { Shows verify (option_copied body.entry) result out.new }
     ensures unchanged { result ≡ Ok (Got.Same) → out.new ≡ out.old }
+    ensures spared { IfSome verify (λ digest. IfErr result (λ fault. out.new ≡ out.old)) }
 {
     match body {
         None => Ok(Got::Absent),

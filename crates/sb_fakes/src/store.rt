@@ -1,6 +1,6 @@
 //! A store in memory.
 
-ghost use Rattle.std.specs.Prelude.{◌≡◌, ◌≢◌, Ok, Some, [], ◌∷◌, IfOk, MatchResult};
+ghost use Rattle.std.specs.Prelude.{◌≡◌, ◌≢◌, Ok, Some, [], ◌∷◌, IfOk, IfErr, IfSome, MatchResult};
 ghost use Rattle.std.specs.Option.{option_copied, option_map};
 ghost use Rattle.sb_world.specs.Told.{Gains, CountsFaults};
 ghost use Rattle.sb_world.specs.Calls as calls;
@@ -108,6 +108,7 @@ impl Link for PlainStore {
     fn get(&mut self, name: &[u8], verify: Option<Digest>, out: &mut [u8]) -> Result<Got, LinkFault>
         ensures asked { IsAsked result verify }
         ensures unchanged { result ≡ Ok (Got.Same) → out.new ≡ out.old }
+        ensures spared { IfSome verify (λ digest. IfErr result (λ fault. out.new ≡ out.old)) }
         ensures told { Gains self.old.log self.new.log
             (call.Get name.now verify (get_reply result out.new) ∷ []) }
         ensures cause { CountsFaults self.old.faults self.new.faults (HasFailed result) }

@@ -1,6 +1,6 @@
 //! A store in memory whose GETs may show older versions.
 
-ghost use Rattle.std.specs.Prelude.{◌≡◌, false, Ok, Some, None, [], ◌∷◌, IfOk, OnOk, OnErr};
+ghost use Rattle.std.specs.Prelude.{◌≡◌, false, Ok, Some, None, [], ◌∷◌, IfOk, IfErr, IfSome, OnOk, OnErr};
 ghost use Rattle.std.specs.Option.{option_copied, is_some};
 ghost use Rattle.sb_world.specs.Folders.{HasNames};
 ghost use Rattle.sb_pages.specs.Listings.{IsPage};
@@ -92,6 +92,7 @@ impl TimedStore {
     ) -> Result<Got, LinkFault>
         ensures shows { Answers (fails_next self.old.faults) verify (shown_version self.old name.now) result out.new }
         ensures unchanged { result ≡ Ok (Got.Same) → out.new ≡ out.old }
+        ensures spared { IfSome verify (λ digest. IfErr result (λ fault. out.new ≡ out.old)) }
         ensures stays { KeepsObjects self.old self.new × (self.new.log ≡ self.old.log) }
         ensures calls { (self.new.gets ≡ one_more self.old.gets)
             × (self.new.faults ≡ answered false self.old.faults) }
@@ -258,6 +259,7 @@ impl Link for TimedStore {
     fn get(&mut self, name: &[u8], verify: Option<Digest>, out: &mut [u8]) -> Result<Got, LinkFault>
         ensures asked { IsAsked result verify }
         ensures unchanged { result ≡ Ok (Got.Same) → out.new ≡ out.old }
+        ensures spared { IfSome verify (λ digest. IfErr result (λ fault. out.new ≡ out.old)) }
         ensures told { Gains self.old.log self.new.log
             (call.Get name.now verify (get_reply result out.new) ∷ []) }
         ensures cause { CountsFaults self.old.faults.count self.new.faults.count (HasFailed result) }

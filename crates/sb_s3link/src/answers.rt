@@ -1,6 +1,6 @@
 //! Answers of a link to what came back.
 
-ghost use Rattle.std.specs.Prelude.{◌≡◌, ◌≢◌, ◌+◌, Ok, Err, Some, IfOk, length, List, ℕ};
+ghost use Rattle.std.specs.Prelude.{◌≡◌, ◌≢◌, ◌+◌, Ok, Err, Some, IfOk, IfErr, length, List, ℕ};
 ghost use Rattle.sb_world.specs.Calls.{IsAsked};
 ghost use Rattle.sb_world.specs.declared.link.LinkFault.TheVariants as link_fault;
 ghost use Rattle.sb_http.specs.declared.fault.HttpFault.TheVariants as http;
@@ -178,6 +178,7 @@ pub(crate) fn fill(answer: Result<Got, LinkFault>, content: &[u8], out: &mut [u8
     requires { answer ≡ Ok (Got.Bytes) → length content.now ≡ length out.now }
     ensures fills { Fills answer content.now out.old out.new }
     ensures unchanged { answer ≡ Ok (Got.Same) → out.new ≡ out.old }
+    ensures spared { IfErr answer (λ fault. out.new ≡ out.old) }
 {
     match answer {
         Ok(Got::Bytes) => out.copy_from_slice(content),

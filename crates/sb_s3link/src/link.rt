@@ -1,6 +1,6 @@
 //! A bucket as a link.
 
-ghost use Rattle.std.specs.Prelude.{◌≡◌, ◌↔◌, Ok, Err, Some, [], ◌∷◌, IsErrOf, length};
+ghost use Rattle.std.specs.Prelude.{◌≡◌, ◌↔◌, Ok, Err, Some, [], ◌∷◌, IfSome, IfErr, IsErrOf, length};
 ghost use Rattle.sb_world.specs.Told.{Gains, CountsFaults, CountsJust};
 ghost use Rattle.sb_world.specs.Calls.{get_reply, head_reply, list_reply, fault_of};
 ghost use Rattle.sb_world.specs.Calls.{HasFailed, IsAsked, has_failed};
@@ -167,7 +167,7 @@ impl<W: Wire, C: Clock> S3Link<W, C> {
         match write_request(
             self.alloc,
             &self.site,
-            &self.signer,
+            &mut self.signer,
             operation,
             moment,
             &mut self.head,
@@ -193,6 +193,7 @@ impl<W: Wire, C: Clock> S3Link<W, C> {
             (IsErrOf result (link_fault.Failed 601)) }
         ensures asked { IsAsked result verify }
         ensures unchanged { result ≡ Ok (Got.Same) → out.new ≡ out.old }
+        ensures spared { IfSome verify (λ digest. IfErr result (λ fault. out.new ≡ out.old)) }
         ensures stays { (bucket_of self.new ≡ bucket_of self.old) × (self.new.log ≡ self.old.log)
             × (self.new.faults ≡ self.old.faults) }
     {
@@ -219,6 +220,7 @@ impl<W: Wire, C: Clock> Link for S3Link<W, C> {
             (IsErrOf result (link_fault.Failed 601)) }
         ensures asked { IsAsked result verify }
         ensures unchanged { result ≡ Ok (Got.Same) → out.new ≡ out.old }
+        ensures spared { IfSome verify (λ digest. IfErr result (λ fault. out.new ≡ out.old)) }
         ensures cause { CountsFaults (faults_of self.old) (faults_of self.new) (HasFailed result) }
         ensures count { CountsJust (faults_of self.old) (faults_of self.new) (has_failed result) }
         ensures bucket { bucket_of self.new ≡ bucket_of self.old }

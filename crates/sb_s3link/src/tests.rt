@@ -490,3 +490,16 @@ fn a_listing_of_a_thousand_long_names_has_room_in_a_body(rt: HostRuntime) -> Res
     assert!(rt; told_over(alloc, Ask::List, &answer, WHOLE)? == Told::Names(1_000, true));
     Ok(())
 }
+
+#[test]
+fn a_listing_that_is_a_byte_too_long_is_none(rt: HostRuntime) -> Result<(), Fail> {
+    let alloc = rt.alloc();
+    let mut answer = Vec::from_slice(
+        alloc,
+        b"HTTP/1.1 200 OK\r\n\r\n<IsTruncated>true</IsTruncated>",
+    )?;
+    // behind the head of 19 bytes a body of 4 MiB and one
+    answer.resize(19 + 4_194_305, b' ')?;
+    assert!(rt; told_over(alloc, Ask::List, &answer, WHOLE)? == Told::Failed(602));
+    Ok(())
+}

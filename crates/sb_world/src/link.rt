@@ -1,6 +1,6 @@
 //! A link to a store of objects. One call is one request.
 
-ghost use Rattle.std.specs.Prelude.{◌≡◌, ℕ, List, [], ◌∷◌, Option, length};
+ghost use Rattle.std.specs.Prelude.{◌≡◌, ℕ, List, [], ◌∷◌, Option, IfSome, IfErr, length};
 ghost use Rattle.sb_world.specs.Told.{Gains, CountsFaults};
 ghost use Rattle.sb_world.specs.Calls.{get_reply, head_reply, list_reply, fault_of, HasFailed, IsAsked};
 ghost use Rattle.sb_world.specs.declared.link.Call.{Call};
@@ -119,10 +119,12 @@ pub trait Link {
     ghost faults: { Self → ℕ };
 
     /// Asks for an object of the length of `out`; one of another length fails with status 600. `Same` comes only where
-    /// a digest was given, and leaves `out` as it was. After `Absent` or a fault `out` is unspecified.
+    /// a digest was given, and leaves `out` as it was, as does a fault there. After `Absent`, and after a fault where
+    /// none was given, `out` is unspecified.
     fn get(&mut self, name: &[u8], verify: Option<Digest>, out: &mut [u8]) -> Result<Got, LinkFault>
         ensures asked { IsAsked result verify }
         ensures unchanged { result ≡ Ok (Got.Same) → out.new ≡ out.old }
+        ensures spared { IfSome verify (λ digest. IfErr result (λ fault. out.new ≡ out.old)) }
         ensures told { Gains (log self.old) (log self.new) (call.Get name.now verify (get_reply result out.new) ∷ []) }
         ensures cause { CountsFaults (faults self.old) (faults self.new) (HasFailed result) };
 
