@@ -1,5 +1,5 @@
 -- What a history says of the cache: which blocks are known to be zeros in the store, and what is cached.
-use Rattle.std.specs.Prelude.{ℕ, Bool, false, ◌&&◌, nat_eq, if◌then◌else◌, List, [], ◌∷◌, Option, Some, None, unwrap_or}
+use Rattle.std.specs.Prelude.{ℕ, Bool, true, false, ◌&&◌, nat_eq, if◌then◌else◌, List, [], ◌∷◌, Option, Some, None, unwrap_or}
 use Rattle.sb_base.specs.declared.part.Part.{Part}
 use Rattle.sb_base.specs.declared.entry.Shown.{Shown}
 use Rattle.sb_base.specs.declared.entry.Shown.TheVariants as shown
@@ -9,11 +9,9 @@ use Rattle.sb_base.specs.declared.entry.Entry.{Entry}
 use Rattle.sb_history.specs.Contents.{zeros, is_zeros, overlay}
 use Rattle.sb_history.specs.Puts.{Put, puts_of, newest_is_zeros}
 
--- what a mount finds: the bodies that a cache file had of some blocks, and whether the disk keeps zero marks. Without
--- marks (false until the zero cache is built) no block is ever known to be zeros.
+-- what a mount finds: the bodies that a cache file had of some blocks
 pub record Found : Type 0 where
   pub body : ℕ → Option (List ℕ)
-  pub marks : Bool
 
 -- the content that a taken answer gives; Same gives what the cache file had
 abbrev pub answer_content : ℕ → Option (List ℕ) → Shown → List ℕ
@@ -27,28 +25,28 @@ abbrev pub outcome : ℕ → Option (List ℕ) → Part → List ℕ → List �
 outcome block_size cached part bytes = overlay (unwrap_or cached (zeros block_size)) part.offset bytes
 
 -- the block is known to be zeros after a taken answer
-abbrev pub zero_shown : Bool → ℕ → Option (List ℕ) → Shown → Bool → Bool
-zero_shown marks block_size found shown.Absent before = marks
-zero_shown marks block_size found answer before =
+abbrev pub zero_shown : ℕ → Option (List ℕ) → Shown → Bool → Bool
+zero_shown block_size found shown.Absent before = true
+zero_shown block_size found answer before =
     if is_zeros (answer_content block_size found answer) then before else false
 
 -- the block is known to be zeros after an entry
-abbrev pub zero_after : Bool → ℕ → ℕ → Option (List ℕ) → List Put → EntryKind → Bool → Bool
-zero_after marks block_size block found puts (KnownZero of) before = if nat_eq of block then marks else before
-zero_after marks block_size block found puts (GetEnd of answer verify taken) before =
-    if nat_eq of block then (if taken then zero_shown marks block_size found answer before else before) else before
-zero_after marks block_size block found puts (PutBegin of content) before =
+abbrev pub zero_after : ℕ → ℕ → Option (List ℕ) → List Put → EntryKind → Bool → Bool
+zero_after block_size block found puts (KnownZero of) before = if nat_eq of block then true else before
+zero_after block_size block found puts (GetEnd of answer verify taken) before =
+    if nat_eq of block then (if taken then zero_shown block_size found answer before else before) else before
+zero_after block_size block found puts (PutBegin of content) before =
     if nat_eq of block then (if is_zeros content then before else false) else before
-zero_after marks block_size block found puts (PutEnd of ok) before =
-    if nat_eq of block then (if ok then (if newest_is_zeros puts then marks else before) else before) else before
-zero_after marks block_size block found puts kind before = before
+zero_after block_size block found puts (PutEnd of ok) before =
+    if nat_eq of block then (if ok then (if newest_is_zeros puts then true else before) else before) else before
+zero_after block_size block found puts kind before = before
 
 -- the block is known to be zeros in the store: it was so at the opening, or its object was absent or put as zeros, and
 -- nothing else was put or shown since
 abbrev pub is_known_zero : ℕ → Found → List Entry → ℕ → Bool
 is_known_zero block_size found [] block = false
 is_known_zero block_size found (entry ∷ past) block =
-    zero_after found.marks block_size block (found.body block) (puts_of past block) entry.kind
+    zero_after block_size block (found.body block) (puts_of past block) entry.kind
     (is_known_zero block_size found past block)
 
 -- what is cached after a write: zeros in an uncached block that is known to be zeros aren't

@@ -112,7 +112,7 @@ module _ (geometry : Geometry) (settings : Settings) (delay : Delays) (covers : 
       → Each (λ c. c ≡ value_of start past block) (possible_of (start block) (puts_of past block))
       → NewestOk (puts_of past block)
       → (answer_content geometry.block_size (found.body block) answer ≡ value_of start past block)
-      × (zero_shown found.marks geometry.block_size (found.body block) answer
+      × (zero_shown geometry.block_size (found.body block) answer
       (is_known_zero geometry.block_size found past block) ≡ true
       → answer_content geometry.block_size (found.body block) answer ≡ zeros geometry.block_size)
   took answer verify taken free answers ends is fetch here not_zero by order expects verifies has ok =
@@ -137,7 +137,7 @@ module _ (geometry : Geometry) (settings : Settings) (delay : Delays) (covers : 
             (subst (λ v. Verifies (found.body block) v) (sym may.0) verifies) takes
             (answer_in geometry.block_size start found others block answer verify taken
             (zeros_in geometry.block_size start found past)) shows,
-        zero_shown_is found.marks geometry.block_size (found.body block) answer
+        zero_shown_is geometry.block_size (found.body block) answer
             (is_known_zero geometry.block_size found past block) not_zero,
       ) where
         here_decides : DigestsDecide geometry.block_size settings found start
@@ -162,7 +162,7 @@ module _ (geometry : Geometry) (settings : Settings) (delay : Delays) (covers : 
       (unacked_writes geometry.block_size found past block) (value_of start past block) (HeldSince start block past)
       (held_now start block past)
       (cached_content geometry.block_size found past block) (is_known_zero geometry.block_size found past block)
-      found.marks (nat_eq of block)
+      (nat_eq of block)
       (λ t. let before = opening past block may.0 in (
         before.1,
         before.0,
@@ -214,7 +214,7 @@ module _ (geometry : Geometry) (settings : Settings) (delay : Delays) (covers : 
       reading later (fetch_of past block) (puts_of past block) (unacked_writes geometry.block_size found past block)
       (value_of start past block) (HeldSince start block past) (held_now start block past)
       (cached_content geometry.block_size found past block) (is_known_zero geometry.block_size found past block)
-      (zero_shown found.marks geometry.block_size (found.body block) answer
+      (zero_shown geometry.block_size (found.body block) answer
       (is_known_zero geometry.block_size found past block))
       (answer_content geometry.block_size (found.body block) answer) (nat_eq of block) taken
       (λ t is. not_open_end geometry.block_size (fetch_of past block) pass answer verify taken
@@ -244,7 +244,7 @@ module _ (geometry : Geometry) (settings : Settings) (delay : Delays) (covers : 
       reading later (fetch_of past block) (puts_of past block) (unacked_writes geometry.block_size found past block)
       (value_of start past block) (HeldSince start block past) (held_now start block past)
       (cached_content geometry.block_size found past block)
-      (is_known_zero geometry.block_size found past block) found.marks (nat_eq of block) ok
+      (is_known_zero geometry.block_size found past block) (nat_eq of block) ok
       (λ t. ends_open (puts_of past block) pass (subst (λ b. EndsPut (puts_of past b) pass)
       (eqb-true of block t) may)) p
   step (kind.Dropped of) may obeys answers free p =

@@ -53,14 +53,14 @@ not_kept false absent is kept = absurd (cc)
 
 -- a block that is found to be zeros is zeros
 pub zero_shown_is :
-    (marks : Bool) (block_size : ℕ) (found : Option (List ℕ)) (answer : Shown) (absent : Bool) → absent ≡ false
-    → zero_shown marks block_size found answer absent ≡ true → answer_content block_size found answer ≡ zeros block_size
-zero_shown_is marks block_size found shown.Absent absent not_absent is = refl
-zero_shown_is marks block_size found (shown.Bytes bytes) absent not_absent is =
+    (block_size : ℕ) (found : Option (List ℕ)) (answer : Shown) (absent : Bool) → absent ≡ false
+    → zero_shown block_size found answer absent ≡ true → answer_content block_size found answer ≡ zeros block_size
+zero_shown_is block_size found shown.Absent absent not_absent is = refl
+zero_shown_is block_size found (shown.Bytes bytes) absent not_absent is =
     absurd (not_kept (is_zeros bytes) absent not_absent is)
-zero_shown_is marks block_size found shown.Same absent not_absent is =
+zero_shown_is block_size found shown.Same absent not_absent is =
     absurd (not_kept (is_zeros (unwrap_or found (zeros block_size))) absent not_absent is)
-zero_shown_is marks block_size found shown.Failed absent not_absent is = refl
+zero_shown_is block_size found shown.Failed absent not_absent is = refl
 
 pub not_open_end :
     (block_size : ℕ) (get : Option Fetch) (pass : ℕ) (answer : Shown) (verify : Option (List ℕ)) (taken : Bool)

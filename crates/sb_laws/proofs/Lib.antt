@@ -12,7 +12,6 @@ pub mod Law
 pub mod After
 pub mod Settled
 pub mod Acked
-pub mod Marks
 pub mod Smaller
 pub mod Table
 pub mod Epochs

@@ -117,15 +117,15 @@ module _ (block_size : ℕ) (settings : Settings) (delay : Delays) (found : Opti
       sym some.1 ∙ some.2
 
   -- what a block that is known to be zeros holds
-  pub step_known_zero : (known : Option (List ℕ)) (absent marks : Bool) (t : Bool)
+  pub step_known_zero : (known : Option (List ℕ)) (absent : Bool) (t : Bool)
       → (t ≡ true → (get ≡ None) × (puts ≡ []) × (start ≡ zeros block_size))
       → Holds block_size settings delay found start n r known absent get puts owed content H → Holds block_size settings
-      delay found start (suc n) s known (if t then marks else absent) get puts owed content (Since n content H)
-  step_known_zero known absent marks false may p = step_same known absent p
-  step_known_zero known absent marks true may p =
+      delay found start (suc n) s known (if t then true else absent) get puts owed content (Since n content H)
+  step_known_zero known absent false may p = step_same known absent p
+  step_known_zero known absent true may p =
       (marked p.0, kept p.1, (λ is. rw ((may refl).1) ((may refl).2, tt)), (λ is nil. rw ((may refl).1) tt)) where
         marked : Phase block_size settings delay found n r known absent get puts owed content H
-            → Phase block_size settings delay found (suc n) s known marks get puts owed content (Since n content H)
+            → Phase block_size settings delay found (suc n) s known true get puts owed content (Since n content H)
         marked (idle k g e o d) = idle k g (EndedBy-later n (suc n) r s puts (omega arith) later e) o d
         marked (getting fetch k g z a b e o d x v) = let none = (may refl).0 in absurd (cc)
         marked (held k g e o) = held k g (EndedBy-later n (suc n) r s puts (omega arith) later e) o
@@ -247,18 +247,18 @@ module _ (block_size : ℕ) (settings : Settings) (delay : Delays) (found : Opti
         )
 
   pub step_put_end :
-      (known : Option (List ℕ)) (absent marks : Bool) (t ok : Bool) → (t ≡ true → newest_is_open puts ≡ true)
+      (known : Option (List ℕ)) (absent : Bool) (t ok : Bool) → (t ≡ true → newest_is_open puts ≡ true)
       → Holds block_size settings delay found start n r known absent get puts owed content H
       → Holds block_size settings delay found start (suc n) s known
-      (if t then (if ok then (if newest_is_zeros puts then marks else absent) else absent) else absent) get
+      (if t then (if ok then (if newest_is_zeros puts then true else absent) else absent) else absent) get
       (if t then ended (record { place = n; reading = s; ok = ok }) puts else puts)
       (if t then (if ok then filter (λ write. nat_le (newest_place puts) write) owed else owed) else owed) content
       (Since n content H)
-  step_put_end known absent marks false ok may p = step_same known absent p
-  step_put_end known absent marks true ok may p = ends ok p.0 where
+  step_put_end known absent false ok may p = step_same known absent p
+  step_put_end known absent true ok may p = ends ok p.0 where
     ended_ok : (ps : List Put) → known ≡ Some content → get ≡ None → OpenPut block_size delay n r H owed ps
         → (absent ≡ true → Each (λ c. c ≡ zeros block_size) (possible_of start ps))
-        → Holds block_size settings delay found start (suc n) s known (if newest_is_zeros ps then marks else absent) get
+        → Holds block_size settings delay found start (suc n) s known (if newest_is_zeros ps then true else absent) get
         (ended (record { place = n; reading = s; ok = true }) ps)
         (filter (λ write. nat_le (newest_place ps) write) owed) content (Since n content H)
     ended_ok [] k g o z = absurd o
@@ -278,7 +278,7 @@ module _ (block_size : ℕ) (settings : Settings) (delay : Delays) (found : Opti
       λ known_zero nil. refl,
     ) where
       zero_now :
-          (b : Bool) → is_zeros put.content ≡ b → (if b then marks else absent) ≡ true → put.content ≡ zeros block_size
+          (b : Bool) → is_zeros put.content ≡ b → (if b then true else absent) ≡ true → put.content ≡ zeros block_size
       zero_now true is known_zero = zeros_sized block_size put.content o.4 is
       zero_now false is known_zero = (z known_zero).0
 
@@ -308,7 +308,7 @@ module _ (block_size : ℕ) (settings : Settings) (delay : Delays) (found : Opti
 
     ends : (ok : Bool) → Phase block_size settings delay found n r known absent get puts owed content H
         → Holds block_size settings delay found start (suc n) s known
-        (if ok then (if newest_is_zeros puts then marks else absent) else absent) get
+        (if ok then (if newest_is_zeros puts then true else absent) else absent) get
         (ended (record { place = n; reading = s; ok = ok }) puts)
         (if ok then filter (λ write. nat_le (newest_place puts) write) owed else owed) content (Since n content H)
     ends ok (idle k g e o d) = let closed = shut n r puts e in let is = may refl in absurd (cc)

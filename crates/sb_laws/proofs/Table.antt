@@ -71,15 +71,15 @@ module _ (n : ℕ) (get : Option Fetch) (puts : List Put) (owed : List ℕ) wher
       → Fits (suc n) unverified known absent get puts owed
   same unverified absent known p = (shape_later unverified absent known p.0, below_later n owed p.1)
 
-  table_known_zero : (unverified absent marks : Bool) (known : Option (List ℕ)) (t : Bool)
+  table_known_zero : (unverified absent : Bool) (known : Option (List ℕ)) (t : Bool)
       → (t ≡ true → (get ≡ None) × (puts ≡ []) × (known ≡ None)) → Fits n unverified known absent get puts owed
-      → Fits (suc n) (if t then false else unverified) known (if t then marks else absent) get puts owed
+      → Fits (suc n) (if t then false else unverified) known (if t then true else absent) get puts owed
       × (state_of (if t then false else unverified) known get puts owed ≡
       (if t then missing else state_of unverified known get puts owed))
-  table_known_zero unverified absent marks known false may p = (same unverified absent known p, refl)
-  table_known_zero unverified absent marks known true may p =
+  table_known_zero unverified absent known false may p = (same unverified absent known p, refl)
+  table_known_zero unverified absent known true may p =
       (by p.0, rw ((may refl).0, (may refl).1, (may refl).2) refl) where
-        by : Shape n unverified known absent get puts owed → Fits (suc n) false known marks get puts owed
+        by : Shape n unverified known absent get puts owed → Fits (suc n) false known true get puts owed
         by (idle k g o d u) = (idle k g o d (λ is. refl), below_later n owed p.1)
         by (getting fetch k g a o d) = let none = (may refl).0 in absurd (cc)
         by (held content k g o u) = let none = (may refl).2 in absurd (cc)
@@ -338,7 +338,7 @@ step :
 step geometry settings found past block pass now (kind.KnownZero of) may obeys p =
     table_known_zero (length past) (fetch_of past block) (puts_of past block)
     (unacked_writes geometry.block_size found past block) (is_unverified found past block)
-    (is_known_zero geometry.block_size found past block) found.marks
+    (is_known_zero geometry.block_size found past block)
     (cached_content geometry.block_size found past block) (nat_eq of block)
     (λ t. let before = opening past block may.0 in (
       before.1,
@@ -364,7 +364,7 @@ step geometry settings found past block pass now (kind.GetEnd of answer verify t
     table_get_end (length past) (fetch_of past block) (puts_of past block)
     (unacked_writes geometry.block_size found past block) (is_unverified found past block)
     (is_known_zero geometry.block_size found past block)
-    (zero_shown found.marks geometry.block_size (found.body block) answer
+    (zero_shown geometry.block_size (found.body block) answer
     (is_known_zero geometry.block_size found past block)) (cached_content geometry.block_size found past block)
     (answer_content geometry.block_size (found.body block) answer) (nat_eq of block) taken
     (λ t is. not_open_end geometry.block_size (fetch_of past block) pass answer verify taken
@@ -386,7 +386,7 @@ step geometry settings found past block pass now (kind.PutEnd of ok) may obeys p
     table_put_end (length past) (fetch_of past block) (puts_of past block)
     (unacked_writes geometry.block_size found past block) (is_unverified found past block)
     (is_known_zero geometry.block_size found past block)
-    (if ok then (if newest_is_zeros (puts_of past block) then found.marks else is_known_zero geometry.block_size found
+    (if ok then (if newest_is_zeros (puts_of past block) then true else is_known_zero geometry.block_size found
     past block) else is_known_zero geometry.block_size found past block)
     (cached_content geometry.block_size found past block)
     (record { place = length past; reading = now; ok = ok }) (nat_eq of block) ok

@@ -182,9 +182,9 @@ spaced_by_5 =
 abbrev pub all_zeros : Start
 all_zeros block = zeros 2
 
--- no cache file, and zero marks or none
-abbrev pub nothing_found : Bool → Found
-nothing_found marks = record { body = λ block. None; marks = marks }
+-- no cache file
+abbrev pub nothing_found : Found
+nothing_found = record { body = λ block. None }
 
 -- all of block 3
 abbrev pub block_3 : Part
@@ -216,6 +216,10 @@ write_during_get =
 -- zeros written to a block that is known to be zeros at the opening
 abbrev pub zeros_written : List Entry
 zeros_written = at 1 (Write block_3 (0 ∷ 0 ∷ [])) ∷ at 0 (KnownZero 3) ∷ []
+
+-- zeros written to a block of which nothing is known
+abbrev pub zeros_written_blindly : List Entry
+zeros_written_blindly = at 1 (Write block_3 (0 ∷ 0 ∷ [])) ∷ []
 
 -- the rules without the one that no write stands while a GET of its block is open
 abbrev pub MayWriteDuringGet : Found → List Entry → EntryKind → Type 0

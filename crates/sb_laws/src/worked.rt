@@ -37,6 +37,7 @@ ghost use Rattle.sb_laws.specs.Histories.{
   write_during_get,
   zeros_flushed,
   zeros_written,
+  zeros_written_blindly,
 };
 ghost use Rattle.sb_laws.specs.Traces.{
   alone,
@@ -96,27 +97,27 @@ pub fn flush_waits_for_its_put()
     ensures not_after_failure { FlushesAreDurable a_at_0 flushed_after_failure → ⊥ }
 {}
 
-/// A history in which a stale answer is refused meets all premises of the laws, with zero marks and without.
+/// A history in which a stale answer is refused meets all premises of the laws.
 pub fn stale_answer_refused()
-    ensures { (marks : Bool) → md5 (zeros 2) ≢ md5 six
-        → IsSoundHistory small spaced_by_5 (nothing_found marks) all_zeros (both 5) stale_refused }
+    ensures { md5 (zeros 2) ≢ md5 six
+        → IsSoundHistory small spaced_by_5 nothing_found all_zeros (both 5) stale_refused }
 {}
 
 /// Why no write stands while a GET of its block is open: a history that follows all other rules, and isn't legal.
 pub fn write_while_a_get_is_open()
-    ensures rules { (marks : Bool) → FollowsAllButOne spaced_by_5 (nothing_found marks) write_during_get }
-    ensures policy { (marks : Bool) → FollowsCachePolicy small spaced_by_5 (nothing_found marks) write_during_get }
+    ensures rules { FollowsAllButOne spaced_by_5 nothing_found write_during_get }
+    ensures policy { FollowsCachePolicy small spaced_by_5 nothing_found write_during_get }
     ensures within_0 { IsStaleWithin 2 all_zeros (both 0) write_during_get }
-    ensures collision_free { (marks : Bool) → IsCollisionFree 2 all_zeros (nothing_found marks) write_during_get }
+    ensures collision_free { IsCollisionFree 2 all_zeros nothing_found write_during_get }
     ensures illegal { IsLegal all_zeros write_during_get → ⊥ }
 {}
 
-/// Zeros that are written over known zeros owe nothing and aren't cached; without zero marks they are cached and owed.
+/// Zeros that are written over known zeros owe nothing and aren't cached; over what isn't known they are cached and owed.
 pub fn zeros_over_known_zeros()
-    ensures marked { is_known_zero 2 (nothing_found true) zeros_written 3 ≡ true }
-    ensures uncached { cached_content 2 (nothing_found true) zeros_written 3 ≡ None }
-    ensures nothing_owed { unacked_writes 2 (nothing_found true) zeros_written 3 ≡ [] }
-    ensures unmarked { is_known_zero 2 (nothing_found false) zeros_written 3 ≡ false }
-    ensures cached { cached_content 2 (nothing_found false) zeros_written 3 ≡ Some (zeros 2) }
-    ensures owed { unacked_writes 2 (nothing_found false) zeros_written 3 ≡ 1 ∷ [] }
+    ensures marked { is_known_zero 2 nothing_found zeros_written 3 ≡ true }
+    ensures uncached { cached_content 2 nothing_found zeros_written 3 ≡ None }
+    ensures nothing_owed { unacked_writes 2 nothing_found zeros_written 3 ≡ [] }
+    ensures unmarked { is_known_zero 2 nothing_found zeros_written_blindly 3 ≡ false }
+    ensures cached { cached_content 2 nothing_found zeros_written_blindly 3 ≡ Some (zeros 2) }
+    ensures owed { unacked_writes 2 nothing_found zeros_written_blindly 3 ≡ 0 ∷ [] }
 {}
