@@ -7,7 +7,7 @@ use std::alloc::{AllocError, Global};
 
 /// The `authorization` of a PUT of this body at the last of these seconds.
 pub fn last_header(alloc: Global, body: &[u8], rounds: u32) -> anyhow::Result<String> {
-    let signer = Signer::new(
+    let mut signer = Signer::new(
         alloc,
         b"AKIDEXAMPLE",
         b"loopback/test+only=key",

@@ -5,3 +5,5 @@ pub mod Date
 pub mod Requests
 pub mod SignatureTexts
 pub mod Signatures
+pub mod DayKeys
+pub mod Laws

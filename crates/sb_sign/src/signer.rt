@@ -1,12 +1,16 @@
 //! Signing requests.
 
 ghost use Rattle.std.specs.Prelude.{◌≡◌, ◌↔◌, ◌⊎◌, IfErr, IfOk};
+ghost use Rattle.sb_sign.specs.Credentials.{Credentials};
 ghost use Rattle.sb_sign.specs.Date.{HasNoDate};
+ghost use Rattle.sb_sign.specs.Hmac.{IsKeyed};
+ghost use Rattle.sb_sign.specs.Signatures.{authorization_of, signing_key_of};
 ghost use Rattle.sb_sign.specs.SignatureTexts.{header_text_of, scope_of, text_to_sign_of};
 
 use crate::date::date_of;
+use crate::day::DayKey;
 use crate::headers::{add_line, canonical_request, names, signed_headers};
-use crate::hmac::{Keyed, hmac_sha256, take_key};
+use crate::hmac::{Keyed, take_key};
 use crate::request::Request;
 use sb_base::Text;
 use sha2::{Digest, Sha256};
@@ -41,22 +45,26 @@ pub struct Signer {
     region: Text,
     /// The hashers that have taken in `AWS4` and the secret.
     keyed: Keyed,
+    /// The key of the day that was signed on last.
+    latest: DayKey,
 }
 
 impl Model for Signer {
     ghost use Rattle.std.specs.Prelude.{◌++◌, codes};
     ghost use Rattle.sb_sign.specs.Credentials.{Credentials};
+    ghost use Rattle.sb_sign.specs.DayKeys.{IsKeyOf};
     ghost use Rattle.sb_sign.specs.Hmac.{IsKeyed};
 
     ghost Value = { Credentials };
 
     ghost view = { λ s. record { id = s.id; secret = s.secret; region = s.region } };
 
-    ghost invariant = { λ s. IsKeyed s.keyed (codes "AWS4" ++ s.secret) };
+    ghost invariant = { λ s. IsKeyed s.keyed (codes "AWS4" ++ s.secret)
+        × IsKeyOf (record { id = s.id; secret = s.secret; region = s.region }) s.latest };
 }
 
 impl Signer {
-    ghost use Rattle.sb_sign.specs.Signatures.{IsAuthorized, authorization_of, signing_key_of};
+    ghost use Rattle.sb_sign.specs.Signatures.{IsAuthorized};
 
     /// A signer with this id and secret for a region. The hashers of the secret are made here, once.
     pub fn new(alloc: Global, id: &[u8], secret: &[u8], region: &[u8]) -> Result<Signer, AllocError>
@@ -64,27 +72,32 @@ impl Signer {
     {
         let mut start = Vec::from_slice(alloc, b"AWS4")?;
         start.extend_from_slice(secret)?;
+        let keyed = take_key(&start);
+        let latest = DayKey::of(&keyed, region, &[0; 16]);
         Ok(Signer {
             id: Text::of(alloc, id)?,
             secret: Text::of(alloc, secret)?,
             region: Text::of(alloc, region)?,
-            keyed: take_key(&start),
+            keyed,
+            latest,
         })
     }
 
-    /// The headers that sign a request at a moment, which is seconds since the beginning of 1970, in UTC.
+    /// The headers that sign a request at a moment, which is seconds since the beginning of 1970, in UTC. The key of a day
+    /// is made for its first request, and kept for those that follow.
     ///
     /// `MomentOutOfRange` comes before any memory is taken, and `Memory` where it is not found.
     pub fn sign(
-        &self,
+        &mut self,
         alloc: Global,
         request: &Request,
         moment: i64,
     ) -> Result<Authorization, SignFault>
-        ensures signed { IfOk result (IsAuthorized self.now request.now moment) }
+        ensures signed { IfOk result (IsAuthorized self.old request.now moment) }
         ensures moment { (result ≡ Err (SignFault.MomentOutOfRange moment)) ↔ HasNoDate moment }
         ensures fault { IfErr result (λ fault. (fault ≡ SignFault.MomentOutOfRange moment)
             ⊎ (fault ≡ SignFault.Memory)) }
+        ensures stays { self.new ≡ self.old }
     {
         let Some(date) = date_of(moment) else {
             return Err(SignFault::MomentOutOfRange(moment));
@@ -97,32 +110,47 @@ impl Signer {
 
     /// The value of `authorization` of a request at a date.
     fn authorization(
-        &self,
+        &mut self,
         alloc: Global,
         request: &Request,
         date: &[u8; 16],
     ) -> Result<Text, AllocError>
-        ensures { IfOk result (λ header. header ≡ authorization_of self.now request.now date.now) }
+        ensures is { IfOk result (λ header. header ≡ authorization_of self.old request.now date.now) }
+        ensures stays { self.new ≡ self.old }
     {
-        let headers = signed_headers(alloc, request, date)?;
-        let names = names(alloc, &headers)?;
-        let scope = scope(alloc, self.region.bytes(), date)?;
-        let canonical = canonical_request(alloc, request, &headers, &names)?;
-        let signed = text_to_sign(alloc, date, &scope, &canonical)?;
-        let signature = hex::encode(alloc, hmac_sha256(&self.signing_key(date), &signed))?;
-        let text = header(alloc, self.id.bytes(), &scope, &names, signature.as_bytes())?;
-        Ok(text)
+        self.latest.turn_to(&self.keyed, self.region.bytes(), date);
+        header_of(
+            alloc,
+            self.id.bytes(),
+            self.region.bytes(),
+            &self.latest,
+            request,
+            date,
+        )
     }
+}
 
-    /// The key that signs on a day.
-    fn signing_key(&self, date: &[u8; 16]) -> [u8; 32]
-        ensures { result ≡ signing_key_of self.now date.now }
-    {
-        let day = self.keyed.hmac(&date[..8]);
-        let region = hmac_sha256(&day, self.region.bytes());
-        let service = hmac_sha256(&region, b"s3");
-        hmac_sha256(&service, b"aws4_request")
-    }
+/// The value of `authorization` of a request at a date, with the key of its day.
+fn header_of(
+    alloc: Global,
+    id: &[u8],
+    region: &[u8],
+    key: &DayKey,
+    request: &Request,
+    date: &[u8; 16],
+) -> Result<Text, AllocError>
+    ensures { (credentials : Credentials) → credentials.id ≡ id.now → credentials.region ≡ region.now
+        → IsKeyed key.now.keyed (signing_key_of credentials date.now)
+        → IfOk result (λ header. header ≡ authorization_of credentials request.now date.now) }
+{
+    let headers = signed_headers(alloc, request, date)?;
+    let names = names(alloc, &headers)?;
+    let scope = scope(alloc, region, date)?;
+    let canonical = canonical_request(alloc, request, &headers, &names)?;
+    let signed = text_to_sign(alloc, date, &scope, &canonical)?;
+    let signature = hex::encode(alloc, key.keyed.hmac(&signed))?;
+    let text = header(alloc, id, &scope, &names, signature.as_bytes())?;
+    Ok(text)
 }
 
 /// The scope of a signature.

@@ -53,7 +53,7 @@ fn signed(alloc: Global, case: &Case) -> Result<Authorization, SignFault>
         case.secret.bytes(),
         case.region.bytes(),
     ) {
-        Ok(signer) => signer.sign(alloc, &case.request, case.moment),
+        Ok(mut signer) => signer.sign(alloc, &case.request, case.moment),
         Err(_) => Err(SignFault::Memory),
     }
 }

@@ -1,50 +1,13 @@
-use Rattle.std.proofs.Common.{◌≡◌, ◌∙◌, List, ℕ, ap, refl}
-use Rattle.std.specs.String.{string_bytes}
-use Rattle.hex.specs.Hex.{encode_lower}
-use Rattle.sb_sign.specs.declared.request.Pair.{Pair}
+use Rattle.std.proofs.Common.{◌≡◌, IfOk, sym, subst}
 use Rattle.sb_sign.specs.Credentials.{Credentials}
-use Rattle.sb_sign.specs.Hmac.{hmac_of}
-use Rattle.sb_sign.specs.Requests.{canonical_request_of, names_of, signed_headers_of}
-use Rattle.sb_sign.specs.SignatureTexts.{scope_of, text_to_sign_of}
-use Rattle.sb_sign.specs.Signatures.{authorization_under, signing_key_of}
+use Rattle.sb_sign.specs.Signatures.{authorization_of}
 use Rattle.sb_sign.proofs.signer.Signer.authorization.Goals as goal
 
-pub returns : goal.returns
-unfolding authorization_under
-returns c =
-    let date = c.args.date.now in
-    let request = c.args.request.now in
-    let id : c.self.inside.id ≡ c.args.self.now.id = ap (λ (k : Credentials). k.id) c.self.view_is in
-    let region : c.self.inside.region ≡ c.args.self.now.region = ap (λ (k : Credentials). k.region) c.self.view_is in
-    let headers = signed_headers_of request.signed.items request.payload date in
-    let scope : c.in_ok-scope.scope.items ≡ scope_of c.args.self.now.region date =
-    c.in_ok-scope.ensures ∙ ap (λ (r : List ℕ). scope_of r date) (c.bytes.ensures ∙ region) in
-    let names : c.in_ok-names.names.items ≡ names_of headers =
-    c.in_ok-names.ensures ∙ ap (λ (h : List Pair). names_of h) (c.deref.ensures.value ∙ c.in_ok-headers.ensures) in
-    let canonical : c.in_ok-canonical.canonical.items ≡ canonical_request_of request headers =
-    c.in_ok-canonical.ensures
-    ∙ ap (λ (h : List Pair). canonical_request_of request h) (c.deref-2.ensures.value ∙ c.in_ok-headers.ensures) in
-    let signed : c.in_ok-signed.signed.items
-    ≡ text_to_sign_of date (scope_of c.args.self.now.region date) (canonical_request_of request headers) =
-    c.in_ok-signed.ensures ∙ rw (c.deref-4.ensures.value, c.deref-5.ensures.value, scope, canonical) refl in
-    let signature : string_bytes c.in_ok-signature.signature
-    ≡ encode_lower (hmac_of (signing_key_of c.args.self.now date)
-    (text_to_sign_of date (scope_of c.args.self.now.region date) (canonical_request_of request headers))) =
-    c.in_ok-signature.ensures ∙ rw (
-      c.hmac_sha256.ensures,
-      c.signing_key.ensures,
-      c.deref-6.ensures.value,
-      signed,
-    ) refl in
-    c.in_ok-text.ensures
-    ∙ rw (
-      c.bytes-2.ensures,
-      id,
-      c.deref-7.ensures.value,
-      scope,
-      c.deref-8.ensures.value,
-      names,
-      c.as_bytes.ensures.value,
-      signature,
-    )
-    refl
+pub returns-clause-is : goal.returns-clause-is
+returns-clause-is c =
+    let inside : Credentials =
+    record { id = c.self.inside.id; secret = c.self.inside.secret; region = c.self.inside.region } in
+    let turned = c.turn_to.ensures inside c.self.invariant.0 (sym c.bytes.ensures) c.self.invariant.1 in
+    subst (λ (k : Credentials). IfOk c.header_of.result
+    (λ header. header ≡ authorization_of k c.args.request.now c.args.date.now)) c.self.view_is
+    (c.header_of.ensures inside (sym c.bytes-2.ensures) (sym c.bytes-3.ensures) turned.1)
