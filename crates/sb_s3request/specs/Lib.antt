@@ -2,3 +2,4 @@ pub mod Sites
 pub mod Operations
 pub mod Heads
 pub mod Requests
+pub mod Laws

@@ -4,6 +4,7 @@
 mod digests;
 mod head;
 mod headers;
+mod laws;
 mod operation;
 mod parts;
 mod request;
@@ -11,6 +12,7 @@ mod signed;
 mod site;
 mod target;
 
+pub use laws::heads_agree;
 pub use operation::Operation;
 pub use request::write_request;
 pub use site::Site;

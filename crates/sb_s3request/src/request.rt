@@ -22,15 +22,16 @@ const LAST_MOMENT: i64 = 253_370_764_799;
 pub fn write_request(
     alloc: Global,
     site: &Site,
-    signer: &Signer,
+    signer: &mut Signer,
     operation: &Operation<'_>,
     moment: i64,
     out: &mut Vec<u8>,
 ) -> Result<(), SignFault>
-    ensures head { OnOk result (IsRequest site.now signer.now (asked_of operation.now) moment out.new.items) }
+    ensures head { OnOk result (IsRequest site.now signer.old (asked_of operation.now) moment out.new.items) }
     ensures moment { (result ≡ Err (SignFault.MomentOutOfRange moment)) ↔ HasNoDate moment }
     ensures fault { IfErr result (λ fault. (fault ≡ SignFault.MomentOutOfRange moment)
         ⊎ (fault ≡ SignFault.Memory)) }
+    ensures stays { signer.new ≡ signer.old }
 {
     if !has_date(moment) {
         return Err(SignFault::MomentOutOfRange(moment));
@@ -52,14 +53,15 @@ fn has_date(moment: i64) -> bool
 fn write_signed(
     alloc: Global,
     site: &Site,
-    signer: &Signer,
+    signer: &mut Signer,
     operation: &Operation<'_>,
     moment: i64,
     out: &mut Vec<u8>,
 ) -> Result<(), SignFault>
     requires { HasNoDate moment → ⊥ }
-    ensures head { OnOk result (IsRequest site.now signer.now (asked_of operation.now) moment out.new.items) }
+    ensures head { OnOk result (IsRequest site.now signer.old (asked_of operation.now) moment out.new.items) }
     ensures fault { IfErr result (λ fault. fault ≡ SignFault.Memory) }
+    ensures stays { signer.new ≡ signer.old }
 {
     let Ok(parts) = parts_of(alloc, site, operation) else {
         return Err(SignFault::Memory);
