@@ -23,7 +23,7 @@ fn main(rt: HostRuntime) -> anyhow::Result<()> {
     let mut answer = Vec::new(rt.alloc());
     rt.stdin().read_to_end(&mut answer)?;
     let last = match work.as_str() {
-        "put" => put(rt.alloc(), answer, size, rounds)?,
+        "put" => put(rt.alloc(), &answer, size, rounds)?,
         "hash" => last_digests(rt.alloc(), size, rounds)?,
         "list" => listed(rt.alloc(), answer, rounds)?,
         _ => bail!("put, hash or list is wanted"),
