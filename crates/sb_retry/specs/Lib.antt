@@ -1,2 +1,4 @@
 pub mod Pauses
 pub mod Schedules
+pub mod Transient
+pub mod Attempts

@@ -1,0 +1,14 @@
+use Rattle.sb_world.specs.declared.link.Call.TheVariants as call
+use Rattle.sb_retry.specs.Schedules.{millis_left}
+use Rattle.sb_retry.specs.Transient.{own_fault}
+use Rattle.sb_retry.proofs.Loops.{Stands}
+use Rattle.sb_retry.proofs.retry.RetryLink.delete.Given as goal
+
+-- each attempt so far failed in a way that may pass
+abbrev pub invariant-attempts : goal.invariant-attempts
+invariant-attempts g l =
+    Stands g.L.Link.log g.C.Clock.ticks g.L.Link.faults (call.Delete l.fn.name) own_fault l.fn.self l.self l.schedule
+
+-- fewer milliseconds of pauses are left
+abbrev pub decreases-attempts : goal.decreases-attempts
+decreases-attempts g l = millis_left l.schedule
