@@ -1,13 +1,16 @@
 -- What each event of a core owes to a history that it represents.
-use Rattle.std.proofs.Common.{ℕ, suc, ◌≡◌, ◌<◌, ◌≤◌, true, false, min, List}
+use Rattle.std.proofs.Common.{ℕ, suc, ◌≡◌, ◌<◌, ◌≤◌, Bool, true, false, nat_eq, min, List}
 use Rattle.std.proofs.Common.{◌∷◌, length, Option, Some, None, is_some, refl, sym, ◌∙◌, ap, subst}
 use Rattle.std.proofs.Common.{arith}
+use Rattle.std.proofs.lemmas.Bool.{eqb-true}
+use Rattle.std.proofs.lemmas.Bool.Decides.{nat_tests}
 use Rattle.std.specs.FinMap.{get, insert, remove, len}
 use Rattle.sb_base.specs.declared.geometry.Geometry.{Geometry}
 use Rattle.sb_base.specs.declared.settings.Settings.{Settings}
 use Rattle.sb_base.specs.declared.entry.EntryKind.{EntryKind}
 use Rattle.sb_base.specs.declared.entry.Entry.{Entry}
 use Rattle.sb_history.specs.Flushes.{flushes_begun, last_number}
+use Rattle.sb_history.specs.Cache.{is_known_zero}
 use Rattle.sb_history.specs.AccessRules.{last_reading, MayFollow}
 use Rattle.sb_history.specs.CachePolicy.{ObeysPolicy}
 use Rattle.sb_window.specs.Windows.{WindowState}
@@ -19,11 +22,12 @@ use Rattle.sb_blocks.specs.Cached.{content_by, get_by, is_held, is_clean}
 use Rattle.sb_blocks.specs.Cached.{passes}
 use Rattle.sb_blocks.specs.Caches.{CachedBlocks}
 use Rattle.sb_core.specs.PutWindow.{HasPutsOf}
+use Rattle.sb_core.specs.Marking.{SetsMark}
 use Rattle.sb_core.specs.Represents.{nothing_found, BlockStands, next_place}
 use Rattle.sb_core.specs.Represents.{RepresentsBy}
 use Rattle.sb_core.proofs.Counts.{fits_cache}
 use Rattle.sb_core.proofs.Maps.{inserted, removed, len_held, len_fresh, len_gone}
-use Rattle.sb_core.proofs.Standing.{at, is_of, NoFlush, apart, stays}
+use Rattle.sb_core.proofs.BlocksStand.{at, is_of, NoFlush, apart, stays}
 
 pub counted_on : (place n : ℕ) → place ≡ min n last_number → min (suc place) last_number ≡ min (suc n) last_number
 counted_on place n is = omega (arith, is)
@@ -66,21 +70,22 @@ pub none_not_some : {X : Type 0} (x : X) (found : Option X) → found ≡ Some x
 none_not_some x found some none = (let clash : Some x ≡ None = sym some ∙ none in cc)
 
 module _ (geometry : Geometry) (settings : Settings) {window : WindowState} (reading epoch place : ℕ)
-    (m : CachedBlocks) (past : List Entry)
-    (s : RepresentsBy geometry settings window reading epoch place m past) where
+    {marks : ℕ → Bool} (m : CachedBlocks) (past : List Entry)
+    (s : RepresentsBy geometry settings window reading epoch place marks m past) where
   abbrev size : ℕ
   size = geometry.block_size
 
   -- what each event owes
-  pub next : (kept : WindowState) (epoch_ now pass : ℕ) (k : EntryKind) (after : CachedBlocks) → reading ≤ now
+  pub next : {marks_ : ℕ → Bool} (kept : WindowState) (epoch_ now pass : ℕ) (k : EntryKind) (after : CachedBlocks) → reading ≤ now
       → epoch_ ≡ min (flushes_begun (at pass now k ∷ past)) last_number → len after ≤ settings.cache_size
       → ((b : ℕ) → is_some (get after b) ≡ true → b < geometry.blocks)
       → ((b : ℕ) → BlockStands size (at pass now k ∷ past) b (get after b))
       → HasPutsOf settings kept (at pass now k ∷ past)
       → MayFollow geometry settings nothing_found past pass now k
       → ObeysPolicy geometry settings nothing_found past now k
-      → RepresentsBy geometry settings kept now epoch_ (next_place place) after (at pass now k ∷ past)
-  next kept epoch_ now pass k after later epochs fits on_disk blocks puts may obeys = record {
+      → ((b : ℕ) → b < geometry.blocks → is_known_zero size nothing_found (at pass now k ∷ past) b ≡ marks_ b)
+      → RepresentsBy geometry settings kept now epoch_ (next_place place) marks_ after (at pass now k ∷ past)
+  next {marks_ = marks_} kept epoch_ now pass k after later epochs fits on_disk blocks puts may obeys zeros = record {
     checked = s.checked;
     fits = fits;
     on_disk = on_disk;
@@ -88,6 +93,7 @@ module _ (geometry : Geometry) (settings : Settings) {window : WindowState} (rea
     epochs = epochs;
     places = counted_on place (length past) s.places;
     blocks = blocks;
+    zeros = zeros;
     last_puts = puts;
     rules = (may, subst (λ r. r ≤ now) s.last later, s.rules);
     policy = (
@@ -108,6 +114,23 @@ module _ (geometry : Geometry) (settings : Settings) {window : WindowState} (rea
       → BlockStands size (at pass now k ∷ past) b (get m b)
   others pass now k quiet b other =
       stays size (at pass now k) past b (get m b) (s.blocks b) quiet (apart size pass now k past b other)
+
+  -- the marks after an event that sets that of its block
+  turned : (a b : ℕ) → nat_eq a b ≡ false → nat_eq b a ≡ false
+  turned a b other = grind (arith, nat_tests)
+
+  pub marked : (pass now block : ℕ) (k : EntryKind) (marks_ : ℕ → Bool) (is : Bool) → SetsMark marks marks_ block is
+      → is_known_zero size nothing_found (at pass now k ∷ past) block ≡ is
+      → ((b : ℕ) → nat_eq block b ≡ false → is_of k b ≡ false) → (b : ℕ) → b < geometry.blocks
+      → is_known_zero size nothing_found (at pass now k ∷ past) b ≡ marks_ b
+  marked pass now block k marks_ is sets here apart_ b on = by (nat_eq block b) refl where
+    by : (t : Bool) → nat_eq block b ≡ t → is_known_zero size nothing_found (at pass now k ∷ past) b ≡ marks_ b
+    by true same_ =
+        subst (λ x. is_known_zero size nothing_found (at pass now k ∷ past) x ≡ marks_ x) (eqb-true block b same_)
+        (here ∙ sym sets.here)
+    by false other =
+        let same_at = apart size pass now k past b (apart_ b other) in
+        same_at.known ∙ s.zeros b on ∙ sym (sets.others b (turned block b other))
 
   pub on_disk_held : (block : ℕ) (before entry : Cached) → get m block ≡ Some before → (b : ℕ)
       → is_some (get (insert m block entry) b) ≡ true → b < geometry.blocks

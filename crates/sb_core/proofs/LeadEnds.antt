@@ -4,6 +4,8 @@ use Rattle.std.proofs.Common.{refl, sym, ◌∙◌, ap, subst}
 use Rattle.std.specs.FinMap.{get}
 use Rattle.sb_base.specs.declared.settings.Settings.{Settings}
 use Rattle.sb_base.specs.declared.line.Expect.{Expect}
+use Rattle.sb_base.specs.declared.entry.Shown.{Shown}
+use Rattle.sb_history.specs.Cache.{answer_content}
 use Rattle.sb_blocks.specs.declared.cached.OpenGet.{OpenGet}
 use Rattle.sb_blocks.specs.declared.cached.OpenPut.{OpenPut}
 use Rattle.sb_blocks.specs.declared.cached.State.{State}
@@ -27,33 +29,33 @@ use Rattle.sb_core.proofs.Endings.{asked_entry}
 use Rattle.sb_core.proofs.Leading.{idle_set, idle_gone, ended_closer, ended_idle, failed_dirty}
 
 -- the block of which a GET ends is idle
-pub take_idle : (old new : Core) (place block : ℕ) (content : List ℕ) (took : Bool)
-    → TakesAnswer old new place block content took → IsIdleBut block old → IsIdle new
-take_idle old new place block content took does idle = by took does.blocks where
-  by : (t : Bool) → EndsRead old.blocks new.blocks old.reading place block content t → IsIdle new
+pub take_idle : (old new : Core) (place block : ℕ) (answer : Shown) (took : Bool)
+    → TakesAnswer old new place block answer took → IsIdleBut block old → IsIdle new
+take_idle old new place block answer took does idle = by took does.blocks where
+  by : (t : Bool) → EndsRead old.blocks new.blocks old.reading place block (answer_content old.geometry.block_size None answer) t → IsIdle new
   by true made =
       subst (λ (c : CacheState). AllIdle c.cached) (sym made)
-      (idle_set old.blocks.cached block (taken old.reading place content) refl idle)
+      (idle_set old.blocks.cached block (taken old.reading place (answer_content old.geometry.block_size None answer)) refl idle)
   by false made = subst (λ (c : CacheState). AllIdle c.cached) (sym made) (idle_gone old.blocks.cached block idle)
 
 -- and nothing of another one changes
-pub take_others : (old new : Core) (place block : ℕ) (content : List ℕ) (took : Bool)
-    → TakesAnswer old new place block content took → KeepsOthers block old new
-take_others old new place block content took does other apart = by took does.blocks where
-  by : (t : Bool) → EndsRead old.blocks new.blocks old.reading place block content t
+pub take_others : (old new : Core) (place block : ℕ) (answer : Shown) (took : Bool)
+    → TakesAnswer old new place block answer took → KeepsOthers block old new
+take_others old new place block answer took does other apart = by took does.blocks where
+  by : (t : Bool) → EndsRead old.blocks new.blocks old.reading place block (answer_content old.geometry.block_size None answer) t
       → get new.blocks.cached other ≡ get old.blocks.cached other
   by true made =
       ap (λ (c : CacheState). get c.cached other) made
-      ∙ get_other old.blocks.cached block other (taken old.reading place content) apart
+      ∙ get_other old.blocks.cached block other (taken old.reading place (answer_content old.geometry.block_size None answer)) apart
   by false made =
       ap (λ (c : CacheState). get c.cached other) made ∙ gone_other old.blocks.cached block other apart
 
 -- an answer that isn't taken leaves it without an entry
-pub take_nothing : (old new : Core) (place block : ℕ) (content : List ℕ) (outcome : GetDone)
-    → TakesAnswer old new place block content (is_taken outcome) → LeavesNothing old new block outcome
-take_nothing old new place block content done.Taken does = tt
-take_nothing old new place block content done.Failed does = does.blocks
-take_nothing old new place block content (done.Stale expected shown) does = does.blocks
+pub take_nothing : (old new : Core) (place block : ℕ) (answer : Shown) (outcome : GetDone)
+    → TakesAnswer old new place block answer (is_taken outcome) → LeavesNothing old new block outcome
+take_nothing old new place block answer done.Taken does = tt
+take_nothing old new place block answer done.Failed does = does.blocks
+take_nothing old new place block answer (done.Stale expected shown) does = does.blocks
 
 -- one that is taken brings it closer
 asked_steps : (state : State) (get_ : OpenGet) → get_by state ≡ Some get_
@@ -64,10 +66,11 @@ asked_steps (Dirty stamp since) get_ is = absurd (cc)
 asked_steps (Writing put stamp) get_ is = absurd (cc)
 asked_steps (Writing2 put stamp later since) get_ is = absurd (cc)
 
-pub take_closer : (old new : Core) (place block : ℕ) (get_ : OpenGet) (content : List ℕ) (outcome : GetDone)
-    → get_in (get old.blocks.cached block) ≡ Some get_ → TakesAnswer old new place block content (is_taken outcome)
+pub take_closer : (old new : Core) (place block : ℕ) (get_ : OpenGet) (answer : Shown) (outcome : GetDone)
+    → get_in (get old.blocks.cached block) ≡ Some get_ → TakesAnswer old new place block answer (is_taken outcome)
     → outcome ≡ done.Taken → steps_left new block < steps_left old block
-take_closer old new place block get_ content outcome opened does took =
+take_closer old new place block get_ answer outcome opened does took =
+    let content = answer_content old.geometry.block_size None answer in
     let e = asked_entry (get old.blocks.cached block) get_ opened in
     let steps = asked_steps e.0.state get_ e.2 in
     let made : EndsRead old.blocks new.blocks old.reading place block content true = subst
@@ -86,33 +89,33 @@ stale_window settings None (Some digest) (done.Stale expected shown) on is = abs
 stale_window settings (Some expect) digest (done.Stale expected shown) on is = on refl
 
 -- the block of which a PUT ends is idle
-pub end_idle : (old new : Core) (block : ℕ) (ok : Bool) (put : OpenPut)
-    → put_in (get old.blocks.cached block) ≡ Some put → EndsWrite old new block ok → IsIdleBut block old → IsIdle new
-end_idle old new block ok put opened does idle =
+pub end_idle : (old new : Core) (block : ℕ) (zeros ok : Bool) (put : OpenPut)
+    → put_in (get old.blocks.cached block) ≡ Some put → EndsWrite old new block zeros ok → IsIdleBut block old → IsIdle new
+end_idle old new block zeros ok put opened does idle =
     let found = changed old.blocks new.blocks block (put_ended ok old.reading) (get old.blocks.cached block) does.blocks in
     subst (λ (c : CacheState). AllIdle c.cached) (sym found.2)
     (idle_set old.blocks.cached block (put_ended ok old.reading found.0)
     (ended_idle ok found.0.state old.reading put (sym (ap put_in found.1) ∙ opened)) idle)
 
-pub end_others : (old new : Core) (block : ℕ) (ok : Bool) → EndsWrite old new block ok → KeepsOthers block old new
-end_others old new block ok does other apart =
+pub end_others : (old new : Core) (block : ℕ) (zeros ok : Bool) → EndsWrite old new block zeros ok → KeepsOthers block old new
+end_others old new block zeros ok does other apart =
     let found = changed old.blocks new.blocks block (put_ended ok old.reading) (get old.blocks.cached block) does.blocks in
     ap (λ (c : CacheState). get c.cached other) found.2
     ∙ get_other old.blocks.cached block other (put_ended ok old.reading found.0) apart
 
 -- each block is closer after one that ended ok, and after another its block is dirty
-pub end_closer : (old new : Core) (block : ℕ) (ok : Bool) (put : OpenPut)
-    → put_in (get old.blocks.cached block) ≡ Some put → EndsWrite old new block ok → ok ≡ true → IsCloser old new
-end_closer old new block ok put opened does is b =
+pub end_closer : (old new : Core) (block : ℕ) (zeros ok : Bool) (put : OpenPut)
+    → put_in (get old.blocks.cached block) ≡ Some put → EndsWrite old new block zeros ok → ok ≡ true → IsCloser old new
+end_closer old new block zeros ok put opened does is b =
     let found = changed old.blocks new.blocks block (put_ended ok old.reading) (get old.blocks.cached block) does.blocks in
     let made = found.2
     ∙ ap (λ t. with_entry old.blocks block (put_ended t old.reading found.0)) is in
     subst (λ (c : CacheState). steps_left_in c b < steps_left_in old.blocks b) (sym made)
     (ended_closer old.blocks block old.reading put found.0 found.1 (sym (ap put_in found.1) ∙ opened) b)
 
-pub end_dirty : (old new : Core) (block : ℕ) (ok : Bool) (put : OpenPut)
-    → put_in (get old.blocks.cached block) ≡ Some put → EndsWrite old new block ok → ok ≡ false → IsDirty new block
-end_dirty old new block ok put opened does is =
+pub end_dirty : (old new : Core) (block : ℕ) (zeros ok : Bool) (put : OpenPut)
+    → put_in (get old.blocks.cached block) ≡ Some put → EndsWrite old new block zeros ok → ok ≡ false → IsDirty new block
+end_dirty old new block zeros ok put opened does is =
     let found = changed old.blocks new.blocks block (put_ended ok old.reading) (get old.blocks.cached block) does.blocks in
     let made = found.2
     ∙ ap (λ t. with_entry old.blocks block (put_ended t old.reading found.0)) is in

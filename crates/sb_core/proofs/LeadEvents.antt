@@ -1,5 +1,5 @@
 -- Where each event of a core leads.
-use Rattle.std.proofs.Common.{ℕ, ◌≡◌, ◌<◌, Bool, true, false, nat_eq, not, ◌&&◌, nat_le, List}
+use Rattle.std.proofs.Common.{ℕ, ◌≡◌, ◌<◌, Bool, true, false, nat_eq, not, ◌&&◌, nat_le, if◌then◌else◌, List}
 use Rattle.std.proofs.Common.{Option, Some, None, is_none, Result, Ok, Err, refl, sym, ◌∙◌, ap, subst, arith}
 use Rattle.std.proofs.lemmas.Bool.Decides.{nat_tests}
 use Rattle.std.specs.Prelude.{nat_lt}
@@ -16,9 +16,9 @@ use Rattle.sb_blocks.specs.declared.cached.State.TheVariants.{Reading, Clean, Di
 use Rattle.sb_blocks.specs.declared.cached.Cached.{Cached}
 use Rattle.sb_blocks.specs.Cached.{get_in, put_in, passes, is_dirty, is_clean, is_held}
 use Rattle.sb_blocks.specs.Moves.{touched, written, first_written, asked, put_begun}
-use Rattle.sb_blocks.specs.Caches.{CachedBlocks, CacheState, without, count_in, after_write}
+use Rattle.sb_blocks.specs.Caches.{CachedBlocks, CacheState, with_entry, without, count_in, after_write}
 use Rattle.sb_blocks.specs.Orders.{rank_of, writing_rank}
-use Rattle.sb_history.specs.Contents.{zeros, overlay}
+use Rattle.sb_history.specs.Contents.{zeros, is_zeros, overlay}
 use Rattle.sb_core.specs.declared.machine.Core.{Core}
 use Rattle.sb_core.specs.declared.job.GetJob.{GetJob}
 use Rattle.sb_core.specs.declared.job.PutJob.{PutJob}
@@ -26,7 +26,7 @@ use Rattle.sb_core.specs.declared.room.Room.{Room}
 use Rattle.sb_core.specs.declared.room.Room.TheVariants as room
 use Rattle.sb_core.specs.declared.step.WriteStep.{WriteStep}
 use Rattle.sb_core.specs.Progress.{events_until_clean, steps_left_in}
-use Rattle.sb_core.specs.Cores.{Stays, StartsPut, StartsGet, ReadsHeld}
+use Rattle.sb_core.specs.Cores.{marks_of, Stays, StartsPut, StartsGet, ReadsHeld}
 use Rattle.sb_core.specs.Steps.{HasGet, HasPut}
 use Rattle.sb_core.specs.Writing.{is_too_dirty, WritesPart}
 use Rattle.sb_core.specs.WriteSteps.{write_put, write_room}
@@ -135,30 +135,39 @@ read_keeps old new place part out does =
     (keeps_held old.blocks.cached part.block found.0 (touched place old.reading found.0) found.1 refl refl)
 
 -- a part is written
-write_after : (now place epoch : ℕ) (part : Part) (bytes : List ℕ) (cache : CacheState) (found : Option Cached)
-    → get cache.cached part.block ≡ found
-    → (AllIdle cache.cached → AllIdle (after_write cache false now place epoch part bytes found).cached)
-    × KeepsRequests cache.cached (after_write cache false now place epoch part bytes found).cached
-write_after now place epoch part bytes cache None is = (
-  λ idle. idle_set cache.cached part.block
-      (first_written now place epoch (overlay (zeros cache.geometry.block_size) part.offset bytes)) refl
-      (idle_others cache.cached part.block idle),
-  keeps_fresh cache.cached part.block
-      (first_written now place epoch (overlay (zeros cache.geometry.block_size) part.offset bytes)) (ap get_in is)
-      (ap put_in is),
-)
-write_after now place epoch part bytes cache (Some entry) is =
-    let same = written_requests epoch now entry.state in (
-      λ idle. idle_set cache.cached part.block (written false now place epoch part.offset bytes entry)
-          (written_idle epoch now entry.state (sym (ap is_idle_in is) ∙ idle part.block))
+write_after : (known : Bool) (now place epoch : ℕ) (part : Part) (bytes : List ℕ) (cache : CacheState)
+    (found : Option Cached) → get cache.cached part.block ≡ found
+    → (AllIdle cache.cached → AllIdle (after_write cache known now place epoch part bytes found).cached)
+    × KeepsRequests cache.cached (after_write cache known now place epoch part bytes found).cached
+write_after known now place epoch part bytes cache None is =
+    by (known && is_zeros (overlay (zeros cache.geometry.block_size) part.offset bytes)) where
+      by : (t : Bool)
+          → (AllIdle cache.cached → AllIdle (if t then cache else with_entry cache part.block
+          (first_written now place epoch (overlay (zeros cache.geometry.block_size) part.offset bytes))).cached)
+          × KeepsRequests cache.cached (if t then cache else with_entry cache part.block
+          (first_written now place epoch (overlay (zeros cache.geometry.block_size) part.offset bytes))).cached
+      by true = (λ idle. idle, keeps_same cache.cached)
+      by false = (
+        λ idle. idle_set cache.cached part.block
+            (first_written now place epoch (overlay (zeros cache.geometry.block_size) part.offset bytes)) refl
+            (idle_others cache.cached part.block idle),
+        keeps_fresh cache.cached part.block
+            (first_written now place epoch (overlay (zeros cache.geometry.block_size) part.offset bytes)) (ap get_in is)
+            (ap put_in is),
+      )
+write_after known now place epoch part bytes cache (Some entry) is =
+    let clears = known && is_zeros (overlay entry.body part.offset bytes) in
+    let same = written_requests clears epoch now entry.state in (
+      λ idle. idle_set cache.cached part.block (written known now place epoch part.offset bytes entry)
+          (written_idle clears epoch now entry.state (sym (ap is_idle_in is) ∙ idle part.block))
           (idle_others cache.cached part.block idle),
-      keeps_held cache.cached part.block entry (written false now place epoch part.offset bytes entry) is same.0 same.1,
+      keeps_held cache.cached part.block entry (written known now place epoch part.offset bytes entry) is same.0 same.1,
     )
 
 pub write_ends : (old new : Core) (place : ℕ) (part : Part) (bytes : List ℕ) → WritesPart old new place part bytes
     → LeadsToEnd old new
 write_ends old new place part bytes does =
-    let after = write_after old.reading place old.epoch part bytes old.blocks (get old.blocks.cached part.block) refl in
+    let after = write_after (marks_of old part.block) old.reading place old.epoch part bytes old.blocks (get old.blocks.cached part.block) refl in
     record {
       idle = λ idle. subst (λ (c : CacheState). AllIdle c.cached) (sym does.blocks) (after.0 idle);
       window = does.window;
@@ -167,7 +176,7 @@ write_ends old new place part bytes does =
 pub write_keeps : (old new : Core) (place : ℕ) (part : Part) (bytes : List ℕ) → WritesPart old new place part bytes
     → KeepsOpen old new
 write_keeps old new place part bytes does =
-    let after = write_after old.reading place old.epoch part bytes old.blocks (get old.blocks.cached part.block) refl in
+    let after = write_after (marks_of old part.block) old.reading place old.epoch part bytes old.blocks (get old.blocks.cached part.block) refl in
     subst (λ (c : CacheState). KeepsRequests old.blocks.cached c.cached) (sym does.blocks) after.1
 
 -- a block leaves a full cache

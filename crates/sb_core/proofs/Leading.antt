@@ -159,19 +159,23 @@ failed_dirty (Writing of stamp) now put is = refl
 failed_dirty (Writing2 of stamp later since) now put is = refl
 
 -- a block that is held and idle is idle after a write
-pub written_idle : (epoch now : ℕ) (state : State) → is_idle_by state ≡ true
-    → is_idle_by (state_written false epoch now state) ≡ true
-written_idle epoch now (Reading get_) idle = absurd (cc)
-written_idle epoch now Clean idle = refl
-written_idle epoch now (Dirty stamp since) idle = refl
-written_idle epoch now (Writing put stamp) idle = absurd (cc)
-written_idle epoch now (Writing2 put stamp later since) idle = absurd (cc)
+pub written_idle : (clears : Bool) (epoch now : ℕ) (state : State) → is_idle_by state ≡ true
+    → is_idle_by (state_written clears epoch now state) ≡ true
+written_idle clears epoch now (Reading get_) idle = absurd (cc)
+written_idle true epoch now Clean idle = refl
+written_idle false epoch now Clean idle = refl
+written_idle true epoch now (Dirty stamp since) idle = refl
+written_idle false epoch now (Dirty stamp since) idle = refl
+written_idle clears epoch now (Writing put stamp) idle = absurd (cc)
+written_idle clears epoch now (Writing2 put stamp later since) idle = absurd (cc)
 
-pub written_requests : (epoch now : ℕ) (state : State)
-    → (get_by (state_written false epoch now state) ≡ get_by state)
-    × (put_by (state_written false epoch now state) ≡ put_by state)
-written_requests epoch now (Reading get_) = (refl, refl)
-written_requests epoch now Clean = (refl, refl)
-written_requests epoch now (Dirty stamp since) = (refl, refl)
-written_requests epoch now (Writing put stamp) = (refl, refl)
-written_requests epoch now (Writing2 put stamp later since) = (refl, refl)
+pub written_requests : (clears : Bool) (epoch now : ℕ) (state : State)
+    → (get_by (state_written clears epoch now state) ≡ get_by state)
+    × (put_by (state_written clears epoch now state) ≡ put_by state)
+written_requests clears epoch now (Reading get_) = (refl, refl)
+written_requests true epoch now Clean = (refl, refl)
+written_requests false epoch now Clean = (refl, refl)
+written_requests true epoch now (Dirty stamp since) = (refl, refl)
+written_requests false epoch now (Dirty stamp since) = (refl, refl)
+written_requests clears epoch now (Writing put stamp) = (refl, refl)
+written_requests clears epoch now (Writing2 put stamp later since) = (refl, refl)

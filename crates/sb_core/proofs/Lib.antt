@@ -1,4 +1,7 @@
 pub mod Histories
+pub mod MarkLemmas
+pub mod Owing
+pub mod Answering
 pub mod Fields
 pub mod Stamps
 pub mod PutLaws
@@ -6,7 +9,7 @@ pub mod Lightest
 pub mod Counts
 pub mod Readings
 pub mod Maps
-pub mod Standing
+pub mod BlocksStand
 pub mod OwnBlock
 pub mod OwnWrites
 pub mod OwnPuts
@@ -37,3 +40,11 @@ pub mod PutCauses
 pub mod ReadCauses
 pub mod WriteCauses
 pub mod FlushCauses
+pub mod KeptPuts
+pub mod QuietEvents
+pub mod WindowTimes
+pub mod JobRanks
+pub mod JobSearch
+pub mod LeastWeight
+pub mod DueBlocks
+pub mod JobCauses

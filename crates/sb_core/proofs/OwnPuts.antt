@@ -7,7 +7,10 @@ use Rattle.sb_base.specs.declared.settings.Settings.{Settings}
 use Rattle.sb_base.specs.declared.entry.EntryKind.TheVariants as kind
 use Rattle.sb_base.specs.declared.entry.Entry.{Entry}
 use Rattle.sb_history.specs.Puts.{Ending, Put, puts_of, ended, newest_place}
+use Rattle.sb_history.specs.Contents.{is_zeros}
+use Rattle.sb_history.specs.Cache.{is_known_zero}
 use Rattle.sb_history.specs.Writes.{is_nil, unacked_writes, last_failed}
+use Rattle.sb_history.specs.CachePolicy.{WrittenDuringPut}
 use Rattle.sb_history.specs.AccessRules.{last_reading, FollowsAccessRules}
 use Rattle.sb_blocks.specs.declared.cached.OpenPut.{OpenPut}
 use Rattle.sb_blocks.specs.declared.cached.State.{State}
@@ -16,15 +19,20 @@ use Rattle.sb_blocks.specs.declared.cached.Cached.{Cached}
 use Rattle.sb_blocks.specs.Cached.{put_by}
 use Rattle.sb_blocks.specs.Moves.{put_begun, put_ended}
 use Rattle.sb_core.specs.Represents.{nothing_found, open_put, writes_since, IsStampOf, since_of}
-use Rattle.sb_core.specs.Represents.{BlockStands}
-use Rattle.sb_core.proofs.Histories.{unacked_below, none_since, AllBelow}
+use Rattle.sb_core.specs.Represents.{WrittenSincePut, BlockStands}
+use Rattle.sb_core.proofs.Histories.{unacked_below, none_since, AllBelow, AllBelow-filter}
+use Rattle.sb_core.proofs.Owing.{DuringOne, SinceNewest, during_begun, during_ended, since_ended, since_kept}
 use Rattle.sb_core.proofs.Fields.{same, no_stamp, kept_stamp, since_closed, since_open}
 use Rattle.sb_core.proofs.Stamps.{since_below, ended_closed}
 use Rattle.sb_core.proofs.Readings.{since_stays, since_failed}
-use Rattle.sb_core.proofs.Standing.{at}
+use Rattle.sb_core.proofs.BlocksStand.{at}
 use Rattle.sb_core.proofs.OwnBlock.{with_state}
 
 -- PUTs
+begun_known : (zeros_ known : Bool) → (if zeros_ then known else false) ≡ true → (zeros_ ≡ true) × (known ≡ true)
+begun_known true known is = (refl, is)
+begun_known false known is = absurd (cc)
+
 pub put_begun_stands : (block_size pass now block stamp since : ℕ) (past : List Entry) (entry : Cached)
     → BlockStands block_size past block (Some (record entry { state = Dirty stamp since }))
     → BlockStands block_size (at pass now (kind.PutBegin block entry.body) ∷ past) block
@@ -47,6 +55,12 @@ put_begun_stands block_size pass now block stamp since past entry s =
       since = tt;
       later_since = tt;
       used = s.used;
+      owes = λ marked.
+          let both = begun_known (is_zeros entry.body) (is_known_zero block_size nothing_found past block)
+          (sym (ap (λ t. if t then (if is_zeros entry.body then is_known_zero block_size nothing_found past block
+          else false) else is_known_zero block_size nothing_found past block) (same block)) ∙ marked) in
+          subst (λ t. DuringOne ws (if t then put ∷ puts_of past block else puts_of past block)) (sym (same block))
+          (during_begun ws (puts_of past block) put (s.owes both.0 both.1));
     }
 
 -- the end of a PUT at a reading, by a pass
@@ -115,6 +129,43 @@ module _ (geometry : Geometry) (settings : Settings) (past : List Entry) (pass n
       ∙ since_failed geometry settings nothing_found (end false) past block now owed rules later_reading owed_below some
       failed_now
 
+  -- what came while a put was open
+  abbrev ending_of : Bool → Ending
+  ending_of ok = record { place = length past; reading = now; ok = ok }
+
+  known_still : is_known_zero wide nothing_found (end false ∷ past) block ≡ is_known_zero wide nothing_found past block
+  known_still = ap (λ t. if t then is_known_zero wide nothing_found past block
+      else is_known_zero wide nothing_found past block) (same block)
+
+  puts_ended : (ok : Bool) → puts_of (end ok ∷ past) block ≡ ended (ending_of ok) sent
+  puts_ended ok = ap (λ t. if t then ended (ending_of ok) sent else sent) (same block)
+
+  ended_during : WrittenDuringPut wide nothing_found past block
+      → WrittenDuringPut wide nothing_found (end false ∷ past) block
+  ended_during d =
+      subst (λ ps. DuringOne (unacked_writes wide nothing_found (end false ∷ past) block) ps) (sym (puts_ended false))
+      (subst (λ ws. DuringOne ws (ended (ending_of false) sent)) (sym owed_still)
+      (during_ended owed sent (ending_of false) owed_below d))
+
+  left_writes : (ok : Bool) → SinceNewest owed sent
+      → SinceNewest (unacked_writes wide nothing_found (end ok ∷ past) block) sent
+  left_writes true d =
+      subst (λ t. SinceNewest (if t then left else owed) sent) (sym (same block)) (since_kept owed sent d)
+  left_writes false d = subst (λ t. SinceNewest (if t then owed else owed) sent) (sym (same block)) d
+
+  left_below : (ok : Bool) → AllBelow (length past) (unacked_writes wide nothing_found (end ok ∷ past) block)
+  left_below true =
+      subst (λ t. AllBelow (length past) (if t then left else owed)) (sym (same block))
+      (AllBelow-filter (λ write. nat_le (newest_place sent) write) (length past) owed owed_below)
+  left_below false = subst (λ t. AllBelow (length past) (if t then owed else owed)) (sym (same block)) owed_below
+
+  since_during : (ok : Bool) (put : OpenPut) → open_put sent ≡ Some put → WrittenSincePut wide past block
+      → WrittenDuringPut wide nothing_found (end ok ∷ past) block
+  since_during ok put is d =
+      subst (λ ps. DuringOne (unacked_writes wide nothing_found (end ok ∷ past) block) ps) (sym (puts_ended ok))
+      (since_ended (unacked_writes wide nothing_found (end ok ∷ past) block) sent put (ending_of ok) is (left_below ok)
+      (left_writes ok d))
+
   writing_ended : (ok : Bool) (entry : Cached) (put : OpenPut) (stamp : ℕ)
       → BlockStands wide past block (Some (record entry { state = Writing put stamp }))
       → BlockStands wide (end ok ∷ past) block (Some (put_ended ok now (record entry { state = Writing put stamp })))
@@ -127,6 +178,7 @@ module _ (geometry : Geometry) (settings : Settings) (past : List Entry) (pass n
     since = tt;
     later_since = tt;
     used = s.used;
+    owes = tt;
   }
   writing_ended false entry put stamp s = record {
     content = s.content;
@@ -137,6 +189,7 @@ module _ (geometry : Geometry) (settings : Settings) (past : List Entry) (pass n
     since = dirty_again s.stamp.some;
     later_since = tt;
     used = s.used;
+    owes = λ is_zero marked. ended_during (s.owes (sym known_still ∙ marked));
   }
 
   writing2_ended : (ok : Bool) (entry : Cached) (put : OpenPut) (stamp later since : ℕ)
@@ -154,6 +207,7 @@ module _ (geometry : Geometry) (settings : Settings) (past : List Entry) (pass n
         (since_below (length past) sent owed owed_below) s.later.some failed_still ∙ s.later_since;
     later_since = tt;
     used = s.used;
+    owes = λ is_zero marked. since_during true put s.puts s.owes;
   }
   writing2_ended false entry put stamp later since s = record {
     content = s.content;
@@ -164,6 +218,7 @@ module _ (geometry : Geometry) (settings : Settings) (past : List Entry) (pass n
     since = dirty_again s.stamp.some;
     later_since = tt;
     used = s.used;
+    owes = λ is_zero marked. since_during false put s.puts s.owes;
   }
 
   pub end_stands : (ok : Bool) (entry : Cached) (put : OpenPut) → put_by entry.state ≡ Some put

@@ -1,6 +1,6 @@
 -- Each answer has its cause in the history.
 use Rattle.std.proofs.Common.{ℕ, ◌≡◌, ◌≤◌, ◌<◌, Bool, true, false, if◌then◌else◌}
-use Rattle.std.proofs.Common.{List, Option, Some, None, Result, Ok, Err, is_some, refl, sym, ◌∙◌, ap, subst, arith}
+use Rattle.std.proofs.Common.{List, Option, Some, None, Result, Ok, Err, is_some, inl, inr, refl, sym, ◌∙◌, ap, subst, arith}
 use Rattle.std.specs.Prelude.{nat_lt}
 use Rattle.std.proofs.lemmas.Bool.Decides.{nat_tests}
 use Rattle.std.specs.FinMap.{get, len}
@@ -21,9 +21,9 @@ use Rattle.sb_core.specs.declared.step.ReadStep.{ReadStep}
 use Rattle.sb_core.specs.declared.step.ReadStep.TheVariants as read
 use Rattle.sb_core.specs.Represents.{nothing_found}
 use Rattle.sb_core.specs.Rules.{PutRule}
-use Rattle.sb_core.specs.Cores.{Represents}
-use Rattle.sb_core.specs.Steps.{RoomRule, read_room, MissingRead, ReadRule}
-use Rattle.sb_core.specs.Causes.{IsAbsent, HasRoom, IsCached, IsAsked, ReadPuts, DropCause, ReadCause}
+use Rattle.sb_core.specs.Cores.{Represents, marks_of}
+use Rattle.sb_core.specs.Steps.{RoomRule, read_room, MissingRead, UnheldRead, ReadRule}
+use Rattle.sb_core.specs.Causes.{IsAbsent, IsUnknown, HasRoom, IsCached, IsAsked, ReadPuts, DropCause, ReadCause}
 use Rattle.sb_core.specs.Causes.{ReadsHaveCauses}
 use Rattle.sb_core.proofs.Fields.{some_get}
 use Rattle.sb_core.proofs.Counts.{occupied_is, count_occupied, full_cache, victim_is, no_victim}
@@ -83,11 +83,9 @@ module _ (core : Core) (past : List Entry) (s : Represents core past) where
       → len core.blocks.cached ≡ core.settings.cache_size
   full_is taken = lt_false (len core.blocks.cached) core.blocks.room taken core.its_cache.fits ∙ core.its_cache.room
 
-  pub drop_cause : (block victim : ℕ) → get core.blocks.cached block ≡ None
-      → len core.blocks.cached ≡ core.settings.cache_size → FirstBlockIs unused_rank core.blocks.cached (Some victim)
-      → DropCause core.geometry core.settings past block victim
-  drop_cause block victim none full first = (
-    absent_is block none,
+  pub drop_cause : (victim : ℕ) → len core.blocks.cached ≡ core.settings.cache_size
+      → FirstBlockIs unused_rank core.blocks.cached (Some victim) → DropCause core.geometry core.settings past victim
+  drop_cause victim full first = (
     full_cache core.geometry past core.blocks.cached s.on_disk s.blocks core.settings full,
     victim_is core.geometry past core.blocks.cached s.on_disk s.blocks first.0 victim first.1,
   )
@@ -98,18 +96,21 @@ module _ (core : Core) (past : List Entry) (s : Represents core past) where
       no_victim core.geometry past core.blocks.cached s.on_disk s.blocks core.settings full none
 
   -- reads
-  module _ (now block : ℕ) where
-    read_puts : (answer : Result ℕ Why) → get core.blocks.cached block ≡ None
+  module _ (now block : ℕ) (on : block < core.geometry.blocks) where
+    unknown_is : get core.blocks.cached block ≡ None → marks_of core block ≡ false → IsUnknown core.geometry past block
+    unknown_is none unmarked = (absent_is block none, s.zeros block on ∙ unmarked)
+
+    read_puts : (answer : Result ℕ Why) → IsUnknown core.geometry past block
         → len core.blocks.cached ≡ core.settings.cache_size → NoneRanks unused_rank core.blocks.cached
         → PutRule core.window now None core.blocks.cached answer
         → ReadPuts core.geometry core.settings past now block answer
-    read_puts answer none full unused rule =
-        (absent_is block none, lacks_victim full unused, put_cause core past now None answer s tt rule)
+    read_puts answer unknown full unused rule =
+        (unknown, lacks_victim full unused, put_cause core past now None answer s tt rule)
 
-    read_made : (made : Room) → get core.blocks.cached block ≡ None
+    read_made : (made : Room) → IsUnknown core.geometry past block
         → len core.blocks.cached ≡ core.settings.cache_size → RoomRule core.window now core.blocks.cached made
         → ReadCause core.geometry core.settings past now block (read_room made)
-    read_made (room.Dropped victim) none full rule = drop_cause block victim none full rule
+    read_made (room.Dropped victim) none full rule = (none, drop_cause victim full rule)
     read_made (room.Put job) none full rule = read_puts (Ok job.block) none full rule.0 rule.1
     read_made (room.Wait (Busy told)) none full rule = absurd rule.1.1
     read_made (room.Wait (Spaced until)) none full rule = read_puts (Err (Spaced until)) none full rule.0 rule.1
@@ -117,10 +118,10 @@ module _ (core : Core) (past : List Entry) (s : Represents core past) where
     read_made (room.Wait NoRoom) none full rule = read_puts (Err NoRoom) none full rule.0 rule.1
 
     read_missing : (step : ReadStep) (free : Bool) → nat_lt (len core.blocks.cached) core.blocks.room ≡ free
-        → get core.blocks.cached block ≡ None → MissingRead core.window now core.blocks.cached block free step
+        → IsUnknown core.geometry past block → MissingRead core.window now core.blocks.cached block free step
         → ReadCause core.geometry core.settings past now block step
     read_missing step true free none rule =
-        subst (ReadCause core.geometry core.settings past now block) (sym rule) (absent_is block none, room_is free)
+        subst (ReadCause core.geometry core.settings past now block) (sym rule) (none, room_is free)
     read_missing step false free none rule =
         subst (ReadCause core.geometry core.settings past now block) (sym rule.1)
         (read_made rule.0 none (full_is free) rule.2)
@@ -130,17 +131,25 @@ module _ (core : Core) (past : List Entry) (s : Represents core past) where
         → ReadCause core.geometry core.settings past now block step
     read_held step entry true held is rule =
         subst (ReadCause core.geometry core.settings past now block) (sym rule)
-        (cached_is block (ap (passes is_held) is ∙ held))
+        (inl (cached_is block (ap (passes is_held) is ∙ held)))
     read_held step entry false held is rule =
         subst (ReadCause core.geometry core.settings past now block) (sym rule) (asked_is block entry is held)
 
-    pub read_cause : (step : ReadStep) (found : Option Cached) → get core.blocks.cached block ≡ found
-        → ReadRule core.window now core.blocks block found step
+    read_unheld : (step : ReadStep) (known : Bool) → marks_of core block ≡ known → get core.blocks.cached block ≡ None
+        → UnheldRead core.window now core.blocks block known step
         → ReadCause core.geometry core.settings past now block step
-    read_cause step None is rule =
-        read_missing step (nat_lt (len core.blocks.cached) core.blocks.room) refl is rule
+    read_unheld step true marked none rule =
+        subst (ReadCause core.geometry core.settings past now block) (sym rule)
+        (inr (absent_is block none, s.zeros block on ∙ marked))
+    read_unheld step false unmarked none rule =
+        read_missing step (nat_lt (len core.blocks.cached) core.blocks.room) refl (unknown_is none unmarked) rule
+
+    pub read_cause : (step : ReadStep) (found : Option Cached) → get core.blocks.cached block ≡ found
+        → ReadRule core.window now core.blocks (marks_of core block) block found step
+        → ReadCause core.geometry core.settings past now block step
+    read_cause step None is rule = read_unheld step (marks_of core block) refl is rule
     read_cause step (Some entry) is rule = read_held step entry (is_held entry.state) refl is rule
 
 pub reads_have_causes : ReadsHaveCauses
-reads_have_causes core past now block step s answer =
-    read_cause core past s now block step (get core.blocks.cached block) refl answer
+reads_have_causes core past now block step s on answer =
+    read_cause core past s now block on step (get core.blocks.cached block) refl answer

@@ -1,15 +1,17 @@
 -- Why the core answers so, said of a history that it represents.
-use Rattle.std.specs.Prelude.{ℕ, ◌≡◌, ◌≢◌, ◌<◌, ◌≤◌, ◌⊎◌, true, false, List, Option, Some, None, is_some, Result, Ok, Err}
+use Rattle.std.specs.Prelude.{ℕ, ◌≡◌, ◌≢◌, ◌<◌, ◌≤◌, ◌⊎◌, Bool, true, false, ◌&&◌, List, length, Option, Some, None, is_some, Result, Ok, Err}
 use Rattle.sb_base.specs.declared.geometry.Geometry.{Geometry}
 use Rattle.sb_base.specs.declared.settings.Settings.{Settings}
 use Rattle.sb_base.specs.declared.part.Part.{Part}
+use Rattle.sb_base.specs.Ranges.{IsPart}
 use Rattle.sb_base.specs.declared.line.Why.{Why}
 use Rattle.sb_base.specs.declared.line.Why.TheVariants.{Busy, Spaced, WindowFull, NoRoom}
 use Rattle.sb_base.specs.declared.entry.Entry.{Entry}
 use Rattle.sb_history.specs.Puts.{put_open}
 use Rattle.sb_history.specs.Gets.{fetch_of}
 use Rattle.sb_history.specs.Flushes.{flush_place}
-use Rattle.sb_history.specs.Cache.{cached_content}
+use Rattle.sb_history.specs.Contents.{is_zeros}
+use Rattle.sb_history.specs.Cache.{outcome, is_known_zero, cached_content}
 use Rattle.sb_history.specs.Writes.{is_dirty, dirty_since, is_stamped}
 use Rattle.sb_history.specs.Eviction.{is_occupied, is_clean, count, victim_of}
 use Rattle.sb_history.specs.CachePolicy.{IsFull, HasNoVictim, IsTooDirty}
@@ -87,6 +89,14 @@ pub record PutCause (geometry : Geometry) (settings : Settings) (past : List Ent
 abbrev pub IsAbsent : Geometry → List Entry → ℕ → Type 0
 IsAbsent geometry past block = is_occupied geometry.block_size nothing_found past block ≡ false
 
+-- the block is known to be zeros in the store
+abbrev pub known_zero : Geometry → List Entry → ℕ → Bool
+known_zero geometry past block = is_known_zero geometry.block_size nothing_found past block
+
+-- the block takes no entry, and isn't known to be zeros
+abbrev pub IsUnknown : Geometry → List Entry → ℕ → Type 0
+IsUnknown geometry past block = IsAbsent geometry past block × (known_zero geometry past block ≡ false)
+
 -- an entry is free
 abbrev pub HasRoom : Geometry → Settings → List Entry → Type 0
 HasRoom geometry settings past =
@@ -100,11 +110,17 @@ IsCached geometry past block = is_some (cached_content geometry.block_size nothi
 abbrev pub IsAsked : List Entry → ℕ → ℕ → Type 0
 IsAsked past block told = (told ≡ block) × (is_some (fetch_of past block) ≡ true)
 
--- why a read of a block waits: a GET of it is open, or it takes no entry, no entry can be had by a drop, and the put rule
+-- the victim leaves a cache that is full
+abbrev pub DropCause : Geometry → Settings → List Entry → ℕ → Type 0
+DropCause geometry settings past victim =
+    IsFull geometry settings nothing_found past
+    × (victim_of geometry.block_size geometry.blocks nothing_found past ≡ Some victim)
+
+-- why a read of a block waits: a GET of it is open, or it is unknown, no entry can be had by a drop, and the put rule
 -- waits
 abbrev pub ReadPuts : Geometry → Settings → List Entry → ℕ → ℕ → Result ℕ Why → Type 0
 ReadPuts geometry settings past now block answer =
-    IsAbsent geometry past block × HasNoVictim geometry settings nothing_found past
+    IsUnknown geometry past block × HasNoVictim geometry settings nothing_found past
     × PutCause geometry settings past now None answer
 
 abbrev pub ReadWaits : Geometry → Settings → List Entry → ℕ → ℕ → Why → Type 0
@@ -114,70 +130,92 @@ ReadWaits geometry settings past now block (WindowFull until) =
     ReadPuts geometry settings past now block (Err (WindowFull until))
 ReadWaits geometry settings past now block NoRoom = ReadPuts geometry settings past now block (Err NoRoom)
 
--- the victim leaves a cache that is full, for a block without an entry
-abbrev pub DropCause : Geometry → Settings → List Entry → ℕ → ℕ → Type 0
-DropCause geometry settings past block victim =
-    IsAbsent geometry past block × IsFull geometry settings nothing_found past
-    × (victim_of geometry.block_size geometry.blocks nothing_found past ≡ Some victim)
-
--- why a read of a block is answered so
+-- why a read of a block is answered so: it is done where the block is held, or takes no entry and is known to be zeros
 abbrev pub ReadCause : Geometry → Settings → List Entry → ℕ → ℕ → ReadStep → Type 0
-ReadCause geometry settings past now block read.Done = IsCached geometry past block
+ReadCause geometry settings past now block read.Done =
+    IsCached geometry past block ⊎ (IsAbsent geometry past block × (known_zero geometry past block ≡ true))
 ReadCause geometry settings past now block (read.Wait why) = ReadWaits geometry settings past now block why
 ReadCause geometry settings past now block (read.Get job) =
-    IsAbsent geometry past block × HasRoom geometry settings past
-ReadCause geometry settings past now block (read.Dropped victim) = DropCause geometry settings past block victim
+    IsUnknown geometry past block × HasRoom geometry settings past
+ReadCause geometry settings past now block (read.Dropped victim) =
+    IsUnknown geometry past block × DropCause geometry settings past victim
 ReadCause geometry settings past now block (read.Put job) =
     ReadPuts geometry settings past now block (Ok job.block)
 
 abbrev pub ReadsHaveCauses : Type 0
 ReadsHaveCauses =
     (core : Core) (past : List Entry) (now block : ℕ) (step : ReadStep) → Represents core past
-    → AnswersRead core now block step → ReadCause core.geometry core.settings past now block step
+    → block < core.geometry.blocks → AnswersRead core now block step
+    → ReadCause core.geometry core.settings past now block step
 
--- a write of a part would make one more block dirty: the block is clean, or takes no entry and is written as a whole
-abbrev pub DirtiesOne : Geometry → List Entry → Part → Type 0
-DirtiesOne geometry past part =
-    (is_clean geometry.block_size nothing_found past part.block ≡ true)
-    ⊎ (IsAbsent geometry past part.block × (part.length ≡ geometry.block_size))
+-- a write leaves zeros in a block that is known to be zeros
+abbrev pub keeps_zero : Geometry → List Entry → Part → List ℕ → Bool
+keeps_zero geometry past part bytes =
+    known_zero geometry past part.block
+    && is_zeros (outcome geometry.block_size (cached_content geometry.block_size nothing_found past part.block) part
+    bytes)
 
--- the put rule decides a write: too many blocks would be dirty, or no entry can be had by a drop
-abbrev pub WritePuts : Geometry → Settings → List Entry → ℕ → Part → Result ℕ Why → Type 0
-WritePuts geometry settings past now part answer =
-    ((DirtiesOne geometry past part × IsTooDirty geometry settings nothing_found past)
-    ⊎ (IsAbsent geometry past part.block × HasNoVictim geometry settings nothing_found past))
+-- the block takes no entry, and a write of the part alone says what it holds: it is known to be zeros, or the part is all
+-- of it
+abbrev pub IsFilled : Geometry → List Entry → Part → Type 0
+IsFilled geometry past part =
+    IsAbsent geometry past part.block
+    × ((known_zero geometry past part.block ≡ true) ⊎ (part.length ≡ geometry.block_size))
+
+-- a write of a part would make one more block dirty: of one that is clean or is filled by it, and doesn't stay zeros
+abbrev pub DirtiesOne : Geometry → List Entry → Part → List ℕ → Type 0
+DirtiesOne geometry past part bytes =
+    ((is_clean geometry.block_size nothing_found past part.block ≡ true) ⊎ IsFilled geometry past part)
+    × (keeps_zero geometry past part bytes ≡ false)
+
+-- a write needs an entry that the block doesn't have
+abbrev pub NeedsEntry : Geometry → List Entry → Part → List ℕ → Type 0
+NeedsEntry geometry past part bytes =
+    IsAbsent geometry past part.block × (keeps_zero geometry past part bytes ≡ false)
+
+-- the put rule decides a write: too many blocks would be dirty, or it needs an entry, and none can be had by a drop
+abbrev pub WritePuts : Geometry → Settings → List Entry → ℕ → Part → List ℕ → Result ℕ Why → Type 0
+WritePuts geometry settings past now part bytes answer =
+    ((DirtiesOne geometry past part bytes × IsTooDirty geometry settings nothing_found past)
+    ⊎ (NeedsEntry geometry past part bytes × HasNoVictim geometry settings nothing_found past))
     × PutCause geometry settings past now None answer
 
-abbrev pub WriteWaits : Geometry → Settings → List Entry → ℕ → Part → Why → Type 0
-WriteWaits geometry settings past now part (Busy told) = IsAsked past part.block told
-WriteWaits geometry settings past now part (Spaced until) =
-    WritePuts geometry settings past now part (Err (Spaced until))
-WriteWaits geometry settings past now part (WindowFull until) =
-    WritePuts geometry settings past now part (Err (WindowFull until))
-WriteWaits geometry settings past now part NoRoom = WritePuts geometry settings past now part (Err NoRoom)
+abbrev pub WriteWaits : Geometry → Settings → List Entry → ℕ → Part → List ℕ → Why → Type 0
+WriteWaits geometry settings past now part bytes (Busy told) = IsAsked past part.block told
+WriteWaits geometry settings past now part bytes (Spaced until) =
+    WritePuts geometry settings past now part bytes (Err (Spaced until))
+WriteWaits geometry settings past now part bytes (WindowFull until) =
+    WritePuts geometry settings past now part bytes (Err (WindowFull until))
+WriteWaits geometry settings past now part bytes NoRoom =
+    WritePuts geometry settings past now part bytes (Err NoRoom)
 
--- a write is done: of a block that is held, or of a whole one where an entry is free, and if it makes one more block
--- dirty, not too many are
-abbrev pub WriteDone : Geometry → Settings → List Entry → Part → Type 0
-WriteDone geometry settings past part =
+-- a write is done: of a block that is held, of one that it fills where an entry is free, or where the block stays zeros
+-- and takes no entry; and if it makes one more block dirty, not too many are
+abbrev pub WriteDone : Geometry → Settings → List Entry → Part → List ℕ → Type 0
+WriteDone geometry settings past part bytes =
     (IsCached geometry past part.block
-    ⊎ (IsAbsent geometry past part.block × (part.length ≡ geometry.block_size) × HasRoom geometry settings past))
-    × (DirtiesOne geometry past part → IsTooDirty geometry settings nothing_found past → ⊥)
+    ⊎ (IsFilled geometry past part × HasRoom geometry settings past)
+    ⊎ (IsAbsent geometry past part.block × (keeps_zero geometry past part bytes ≡ true)))
+    × (DirtiesOne geometry past part bytes → IsTooDirty geometry settings nothing_found past → ⊥)
 
--- why a write of a part is answered so
-abbrev pub WriteCause : Geometry → Settings → List Entry → ℕ → Part → WriteStep → Type 0
-WriteCause geometry settings past now part write.Done = WriteDone geometry settings past part
-WriteCause geometry settings past now part (write.Wait why) = WriteWaits geometry settings past now part why
-WriteCause geometry settings past now part (write.Get job) =
-    IsAbsent geometry past part.block × HasRoom geometry settings past × (part.length ≢ geometry.block_size)
-WriteCause geometry settings past now part (write.Dropped victim) =
-    DropCause geometry settings past part.block victim
-WriteCause geometry settings past now part (write.Put job) = WritePuts geometry settings past now part (Ok job.block)
+-- why a write of bytes to a part is answered so
+abbrev pub WriteCause : Geometry → Settings → List Entry → ℕ → Part → List ℕ → WriteStep → Type 0
+WriteCause geometry settings past now part bytes write.Done = WriteDone geometry settings past part bytes
+WriteCause geometry settings past now part bytes (write.Wait why) =
+    WriteWaits geometry settings past now part bytes why
+WriteCause geometry settings past now part bytes (write.Get job) =
+    IsUnknown geometry past part.block × HasRoom geometry settings past × (part.length ≢ geometry.block_size)
+WriteCause geometry settings past now part bytes (write.Dropped victim) =
+    NeedsEntry geometry past part bytes × DropCause geometry settings past victim
+WriteCause geometry settings past now part bytes (write.Put job) =
+    WritePuts geometry settings past now part bytes (Ok job.block)
 
 abbrev pub WritesHaveCauses : Type 0
 WritesHaveCauses =
-    (core : Core) (past : List Entry) (now : ℕ) (part : Part) (step : WriteStep) → Represents core past
-    → AnswersWrite core now part step → WriteCause core.geometry core.settings past now part step
+    (core : Core) (past : List Entry) (now : ℕ) (part : Part) (bytes : List ℕ) (step : WriteStep)
+    → Represents core past → IsPart core.geometry part → length bytes ≡ part.length
+    → AnswersWrite core now part bytes step
+    → WriteCause core.geometry core.settings past now part bytes step
 
 -- the PUT of a block is open that a flush of this mark has to wait for
 abbrev pub IsBeingPut : Geometry → List Entry → ℕ → ℕ → Type 0

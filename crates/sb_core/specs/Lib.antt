@@ -1,5 +1,7 @@
 pub mod PutWindow
 pub mod Represents
+pub mod Opening
+pub mod Marking
 pub mod Fitting
 pub mod Rules
 pub mod Cores
@@ -11,7 +13,11 @@ pub mod WriteSteps
 pub mod Flushing
 pub mod Requests
 pub mod Jobs
+pub mod JobSearches
 pub mod Progress
 pub mod Leads
 pub mod Causes
+pub mod JobCauses
 pub mod Trials
+pub mod Standing
+pub mod StandingLaws

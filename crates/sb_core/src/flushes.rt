@@ -1,6 +1,6 @@
 //! Flushes.
 
-ghost use Rattle.std.specs.Prelude.{◌≡◌, ◌≤◌, ◌^◌, length};
+ghost use Rattle.std.specs.Prelude.{◌≡◌, ◌≤◌, ◌^◌, length, Some};
 ghost use Rattle.sb_core.specs.Rules.{Owes};
 
 use crate::job::Mark;
@@ -9,7 +9,18 @@ use crate::step::FlushStep;
 use sb_base::Why;
 
 impl Core {
-    ghost use Rattle.sb_core.specs.Cores.{geometry_of, window_of, reading_of, reading_at, epoch_of, Adds, AddsAfterFlush};
+    ghost use Rattle.sb_core.specs.Cores.{
+      geometry_of,
+      window_of,
+      reading_of,
+      reading_at,
+      epoch_of,
+      closed_of,
+      last_mark_of,
+      Adds,
+      AddsAfterFlush,
+      KeepsSignals,
+    };
     ghost use Rattle.sb_core.specs.Leads.{IsIdle, KeepsOpen, FlushLeads};
     ghost use Rattle.sb_core.specs.Requests.{SameBase, FlushOpens};
     ghost use Rattle.sb_core.specs.Flushing.{
@@ -30,6 +41,8 @@ impl Core {
         ensures window { window_of self.new ≡ window_of self.old }
         ensures base { SameBase self.old self.new }
         ensures reading { reading_of self.new ≡ reading_at now self.old }
+        ensures closed { closed_of self.new ≡ closed_of self.old }
+        ensures last_mark { last_mark_of self.new ≡ Some result }
     {
         let _place = self.tick(now);
         self.next_mark()
@@ -41,6 +54,7 @@ impl Core {
     {
         let mark = self.epoch;
         self.epoch = mark.saturating_add(1);
+        self.last_mark = Some(mark);
         mark
     }
 
@@ -58,6 +72,7 @@ impl Core {
         ensures open { KeepsOpen self.old self.new }
         ensures base { SameBase self.old self.new }
         ensures reading { reading_of self.new ≡ reading_at now self.old }
+        ensures signals { KeepsSignals self.old self.new }
     {
         let _place = self.tick(now);
         match self.put_next(pass, Some(mark), out) {

@@ -1,10 +1,12 @@
 //! The core: the state of a disk.
 
-ghost use Rattle.std.specs.Prelude.{◌≡◌, ◌≢◌, ◌≤◌, ◌^◌, [], length, Some, IfOk, IsTrue};
+ghost use Rattle.std.specs.Prelude.{ℕ, ◌≡◌, ◌≢◌, ◌<◌, ◌≤◌, ◌^◌, length, Some, IfOk, IsTrue};
 ghost use Rattle.md5.specs.Md5.{md5};
 ghost use Rattle.sb_base.specs.Shapes.{IsSound};
 ghost use Rattle.sb_base.specs.SettingsTable.{IsChecked};
 ghost use Rattle.sb_history.specs.Contents.{zeros};
+ghost use Rattle.sb_history.specs.Eviction.{count};
+ghost use Rattle.sb_zero.specs.Sets.{blocks_of, is_marked};
 ghost use Rattle.sb_core.specs.PutWindow.{IsWindowOf, OpensWith};
 ghost use Rattle.sb_core.specs.Fitting.{IsCacheOf, ExpectsNone};
 
@@ -12,6 +14,7 @@ use md5::Md5;
 use sb_base::{Digest, Geometry, Settings};
 use sb_blocks::Blocks;
 use sb_window::Window;
+use sb_zero::Zeros;
 use std::alloc::{AllocError, Global};
 
 /// The state of a disk. It does no IO: each call but the readers is one event, and tells the caller what to do outside.
@@ -23,16 +26,23 @@ pub struct Core {
     pub(crate) reading: u64,
     /// How many flushes have begun.
     pub(crate) epoch: u64,
+    /// The mark of the last one, the greatest that was given.
+    pub(crate) last_mark: Option<u64>,
+    /// Whether the disk was closed.
+    pub(crate) closed: bool,
     /// The place of the next entry in the history.
     pub(crate) place: u64,
     pub(crate) blocks: Blocks,
     pub(crate) window: Window,
+    /// Which blocks are known to be zeros in the store.
+    pub(crate) marks: Zeros,
     /// The MD5 that an absent object counts as, that of one block of zeros, where the window is on.
     pub(crate) absent: Digest,
     ghost limit: { reading ≤ 2 ^ 62 },
     ghost given: { window.reading ≤ reading },
     ghost its_window: { IsWindowOf geometry settings window },
     ghost its_cache: { IsCacheOf geometry settings blocks },
+    ghost its_marks: { blocks_of marks ≡ geometry.blocks },
     ghost opens: { OpensWith blocks.cached window },
     ghost expects: { ExpectsNone settings blocks.cached },
     ghost absent_of: { settings.md5_size ≢ 0 → absent ≡ md5 (zeros geometry.block_size) },
@@ -50,18 +60,29 @@ pub(crate) fn digest_if(wanted: bool, content: &[u8]) -> Digest
 }
 
 impl Core {
-    ghost use Rattle.sb_core.specs.Cores.{Represents, geometry_of, settings_of, reading_of, Ticks};
+    ghost use Rattle.sb_core.specs.Cores.{Represents, geometry_of, settings_of, reading_of, marks_of, Ticks};
+    ghost use Rattle.sb_core.specs.Opening.{opening};
+    ghost use Rattle.sb_core.specs.Standing.{StandsFor, entries_in, opening_of};
     ghost use Rattle.sb_core.specs.Leads.{IsIdle};
 
-    /// A core whose cache has no entry. It takes the memory of the cache and of the window.
-    pub fn new(alloc: Global, geometry: Geometry, settings: Settings) -> Result<Core, AllocError>
+    /// A core whose cache has no entry. These blocks are known to be zeros in the store. It takes the memory of the cache
+    /// and of the window.
+    pub fn new(
+        alloc: Global,
+        geometry: Geometry,
+        settings: Settings,
+        zeros: Zeros,
+    ) -> Result<Core, AllocError>
         requires sound { IsSound geometry }
         requires checked { IsChecked settings (Some geometry.blocks) }
-        ensures represents { IfOk result (λ core. Represents core []) }
+        requires zeros { blocks_of zeros ≡ geometry.blocks }
+        ensures represents { IfOk result (λ core. Represents core (opening (is_marked zeros) geometry.blocks)) }
+        ensures marks { IfOk result (λ core. (block : ℕ) → marks_of core block ≡ is_marked zeros block) }
         ensures idle { IfOk result IsIdle }
         ensures geometry { IfOk result (λ core. geometry_of core ≡ geometry) }
         ensures settings { IfOk result (λ core. settings_of core ≡ settings) }
         ensures reading { IfOk result (λ core. reading_of core ≡ 0) }
+        ensures stands { IfOk result (λ core. StandsFor core (entries_in (opening_of core))) }
     {
         let blocks = Blocks::new(alloc, &geometry, settings.cache_size)?;
         let window = Window::new(alloc, &geometry, &settings)?;
@@ -71,9 +92,12 @@ impl Core {
             settings,
             reading: 0,
             epoch: 0,
-            place: 0,
+            last_mark: None,
+            closed: false,
+            place: zeros.count() as u64,
             blocks,
             window,
+            marks: zeros,
             absent,
         })
     }
@@ -90,6 +114,21 @@ impl Core {
         ensures { result ≡ settings_of self.now }
     {
         self.settings
+    }
+
+    /// Whether a block is known to be zeros in the store.
+    pub fn marked(&self, block: u32) -> bool
+        requires { block < (geometry_of self.now).blocks }
+        ensures { result ≡ marks_of self.now block }
+    {
+        self.marks.is_zero(block)
+    }
+
+    /// How many blocks are known to be zeros in the store.
+    pub fn known_zeros(&self) -> u32
+        ensures { result ≡ count (marks_of self.now) (geometry_of self.now).blocks }
+    {
+        self.marks.count()
     }
 
     /// Begins an event: its reading is this one, if that isn't below the greatest so far, and its entry gets a place.

@@ -1,23 +1,24 @@
-//! Which dirty block is put next.
+//! Which dirty block is put next, and the ends of PUTs.
 
-ghost use Rattle.std.specs.Prelude.{◌≡◌, ◌≤◌, ◌^◌, Option, Some, None, true, false, length};
+ghost use Rattle.std.specs.Prelude.{◌≡◌, ◌≤◌, ◌^◌, Option, Some, None, is_some, true, false, length};
 ghost use Rattle.std.specs.FinMap.{get};
 ghost use Rattle.sb_window.specs.declared.window.PutWhen.TheVariants.{Now};
-ghost use Rattle.sb_window.specs.Windows.{put_when};
-ghost use Rattle.sb_blocks.specs.Cached.{stamp_in, passes, is_dirty};
+ghost use Rattle.sb_window.specs.Windows.{put_when, ended};
+ghost use Rattle.sb_blocks.specs.Cached.{put_in, stamp_in, passes, is_dirty};
 ghost use Rattle.sb_core.specs.Rules.{is_covered, PutRule};
 ghost use Rattle.sb_core.specs.Searches.{covers_in, sooner};
 
 use crate::job::PutJob;
 use crate::machine::{Core, digest_if};
+use crate::marks;
 use sb_base::Why;
 use sb_window::PutWhen;
 
 impl Core {
-    ghost use Rattle.sb_core.specs.Cores.{StartsPut, PutsNext, put_block};
-    ghost use Rattle.sb_core.specs.Steps.{HasPut};
-    ghost use Rattle.sb_core.specs.Requests.{PutOpens};
-    ghost use Rattle.sb_core.specs.Leads.{KeepsOpen, PutLeads};
+    ghost use Rattle.sb_core.specs.Cores.{StartsPut, PutsNext, put_block, window_of, reading_of, reading_at, Adds, KeepsSignals, EndsWrite};
+    ghost use Rattle.sb_core.specs.Steps.{HasPut, put_end_entry};
+    ghost use Rattle.sb_core.specs.Requests.{SameBase, PutOpens};
+    ghost use Rattle.sb_core.specs.Leads.{IsIdle, IsIdleBut, IsCloser, IsDirty, KeepsOpen, KeepsOthers, PutLeads};
 
     /// Begins the next PUT, whose body is copied to `out`, or tells what is waited for.
     pub(crate) fn put_next(
@@ -32,6 +33,7 @@ impl Core {
         ensures opens { PutOpens self.new pass result }
         ensures leads { PutLeads mark self.old self.new pass out.new result }
         ensures open { KeepsOpen self.old self.new }
+        ensures signals { KeepsSignals self.old self.new }
     {
         match self.next_put(mark) {
             Ok(block) => Ok(self.begin_put(pass, block, out)),
@@ -40,7 +42,7 @@ impl Core {
     }
 
     /// Begins the PUT of a dirty block, whose body is copied to `out`.
-    fn begin_put(&mut self, pass: u64, block: u32, out: &mut [u8]) -> PutJob
+    pub(crate) fn begin_put(&mut self, pass: u64, block: u32, out: &mut [u8]) -> PutJob
         requires dirty { passes is_dirty (get self.old.blocks.cached block) ≡ true }
         requires ready { put_when self.old.window block self.old.reading ≡ Now }
         requires out { length out.old ≡ self.old.geometry.block_size }
@@ -48,6 +50,7 @@ impl Core {
         ensures opens { HasPut self.new pass result }
     {
         let zeros = self.blocks.begin_write(block, pass, out);
+        marks::put_begins(&mut self.marks, block, zeros);
         let digest = digest_if(self.settings.md5_size != 0, out);
         self.window.begin_put(block, self.reading, digest);
         PutJob { block, zeros }
@@ -90,6 +93,35 @@ impl Core {
             (None, Some(_)) => true,
             (Some(mark), Some(stamp)) => stamp <= mark,
         }
+    }
+
+    /// Ends a PUT, ok or not.
+    pub fn put_end(&mut self, now: u64, pass: u64, job: PutJob, ok: bool)
+        requires now { now ≤ 2 ^ 62 }
+        requires job { HasPut self.old pass job }
+        ensures represents { Adds self.old self.new (put_end_entry pass (reading_at now self.old) job ok) }
+        ensures idle { IsIdleBut job.block self.old → IsIdle self.new }
+        ensures closer { ok ≡ true → IsCloser self.old self.new }
+        ensures dirty { ok ≡ false → IsDirty self.new job.block }
+        ensures others { KeepsOthers job.block self.old self.new }
+        ensures window { window_of self.new ≡ ended (window_of self.old) job.block (reading_at now self.old) ok }
+        ensures base { SameBase self.old self.new }
+        ensures reading { reading_of self.new ≡ reading_at now self.old }
+        ensures signals { KeepsSignals self.old self.new }
+    {
+        let PutJob { block, zeros } = job;
+        let _place = self.tick(now);
+        self.end_put(block, zeros, ok);
+    }
+
+    /// The PUT of a block ends, of zeros or not.
+    fn end_put(&mut self, block: u32, zeros: bool, ok: bool)
+        requires open { is_some (put_in (get self.old.blocks.cached block)) ≡ true }
+        ensures { EndsWrite self.old self.new block zeros ok }
+    {
+        marks::put_ends(&mut self.marks, block, zeros, ok);
+        self.blocks.end_write(block, self.reading, ok);
+        self.window.end_put(block, self.reading, ok);
     }
 }
 

@@ -10,15 +10,17 @@ ghost use Rattle.sb_blocks.specs.Moves.{ShowsContent};
 ghost use Rattle.sb_core.specs.Judging.{judged, IsStaleByWindow};
 ghost use Rattle.sb_base.specs.Ranges.{IsPart};
 
+use crate::bytes::fill_zeros;
 use crate::job::GetJob;
 use crate::machine::{Core, digest_if};
+use crate::marks;
 use crate::room::Room;
 use crate::step::{GetDone, ReadStep};
 use sb_base::{Answer, Digest, Expect, Part, Why};
 use sb_blocks::Look;
 
 impl Core {
-    ghost use Rattle.sb_core.specs.Cores.{geometry_of, settings_of, window_of, reading_of, reading_at, Adds, ReadsHeld, TakesAnswer};
+    ghost use Rattle.sb_core.specs.Cores.{geometry_of, settings_of, window_of, reading_of, reading_at, Adds, KeepsSignals, ReadsHeld, TakesAnswer};
     ghost use Rattle.sb_core.specs.Leads.{IsIdle, IsIdleBut, KeepsOpen, KeepsOthers, ReadLeads, LeavesNothing, steps_left};
     ghost use Rattle.sb_core.specs.Requests.{SameBase, ReadOpens};
     ghost use Rattle.sb_core.specs.Steps.{AnswersRead, CopiesRead, read_entry, HasGet, ShownFits, get_end_answer, get_end_entry};
@@ -46,6 +48,7 @@ impl Core {
         ensures open { KeepsOpen self.old self.new }
         ensures base { SameBase self.old self.new }
         ensures reading { reading_of self.new ≡ reading_at now self.old }
+        ensures signals { KeepsSignals self.old self.new }
     {
         let place = self.tick(now);
         if self.holds(part.block) {
@@ -54,6 +57,10 @@ impl Core {
         }
         if !self.is_missing(part.block) {
             return ReadStep::Wait(Why::Busy(part.block));
+        }
+        if self.marked(part.block) {
+            fill_zeros(out);
+            return ReadStep::Done;
         }
         if self.blocks.free() != 0 {
             return ReadStep::Get(self.begin_get(pass, part.block));
@@ -82,6 +89,7 @@ impl Core {
         ensures window { window_of self.new ≡ window_of self.old }
         ensures base { SameBase self.old self.new }
         ensures reading { reading_of self.new ≡ reading_at now self.old }
+        ensures signals { KeepsSignals self.old self.new }
     {
         let GetJob {
             block,
@@ -99,9 +107,10 @@ impl Core {
     fn take(&mut self, place: u64, block: u32, answer: Answer<'_>, taken: bool)
         requires open { is_some (get_in (get self.old.blocks.cached block)) ≡ true }
         requires content { taken ≡ true → ShowsContent self.old.geometry.block_size (shown_of answer) }
-        ensures { TakesAnswer self.old self.new place block
-            (answer_content self.old.geometry.block_size None (shown_of answer.entry)) taken }
+        ensures { TakesAnswer self.old self.new place block (shown_of answer.entry) taken }
     {
+        let size = self.geometry.block_size;
+        marks::get_ends(&mut self.marks, block, size, &answer, taken);
         self.blocks
             .end_read(self.reading, place, block, answer, taken);
     }

@@ -19,7 +19,7 @@ pub(crate) enum Room {
 }
 
 impl Core {
-    ghost use Rattle.sb_core.specs.Cores.{AddsFrom, StartsGet, reading_of};
+    ghost use Rattle.sb_core.specs.Cores.{AddsFrom, KeepsSignals, StartsGet, reading_of};
     ghost use Rattle.sb_core.specs.Requests.{SameBase, RoomOpens};
     ghost use Rattle.sb_core.specs.Steps.{HasGet, RoomRule, room_kind, CopiesRoom};
     ghost use Rattle.sb_core.specs.Leads.{KeepsOpen, RoomLeads};
@@ -36,6 +36,7 @@ impl Core {
         ensures open { KeepsOpen self.old self.new }
         ensures base { SameBase self.old self.new }
         ensures reading { reading_of self.new ≡ reading_of self.old }
+        ensures signals { KeepsSignals self.old self.new }
     {
         match self.blocks.victim() {
             Some(block) => {

@@ -1,14 +1,15 @@
-//! Writes, and the ends of PUTs.
+//! Writes.
 
-ghost use Rattle.std.specs.Prelude.{◌≡◌, ◌≤◌, ◌^◌, length, true, false, None, is_some, nat_eq};
+ghost use Rattle.std.specs.Prelude.{◌≡◌, ◌<◌, ◌≤◌, ◌^◌, ◌&&◌, ◌||◌, length, true, None, nat_eq};
 ghost use Rattle.std.specs.FinMap.{get};
 ghost use Rattle.sb_base.specs.Ranges.{IsPart};
-ghost use Rattle.sb_window.specs.Windows.{ended};
-ghost use Rattle.sb_blocks.specs.Cached.{put_in, passes, is_clean};
+ghost use Rattle.sb_history.specs.Contents.{zeros, is_zeros};
+ghost use Rattle.sb_blocks.specs.Cached.{passes, is_held, is_clean};
 ghost use Rattle.sb_blocks.specs.Calls.{MayWritePart};
 ghost use Rattle.sb_core.specs.Rules.{PutRule};
 ghost use Rattle.sb_core.specs.WriteSteps.{write_put, write_room};
 
+use crate::bytes::{Bytes, fill_zeros};
 use crate::job::PutJob;
 use crate::machine::Core;
 use crate::room::Room;
@@ -17,22 +18,14 @@ use sb_base::{Part, Why};
 use sb_blocks::Look;
 
 impl Core {
-    ghost use Rattle.sb_core.specs.Cores.{geometry_of, window_of, reading_of, reading_at, put_block, Adds, AddsFrom, EndsWrite};
-    ghost use Rattle.sb_core.specs.Leads.{
-      IsIdle,
-      IsIdleBut,
-      IsCloser,
-      IsDirty,
-      KeepsOpen,
-      KeepsOthers,
-      WriteLeads,
-      DirtyLeads,
-    };
-    ghost use Rattle.sb_core.specs.Steps.{HasPut, put_end_entry};
+    ghost use Rattle.sb_core.specs.Cores.{geometry_of, reading_of, reading_at, marks_of, put_block, Adds, AddsFrom, KeepsSignals};
+    ghost use Rattle.sb_core.specs.Leads.{KeepsOpen, WriteLeads, DirtyLeads};
     ghost use Rattle.sb_core.specs.Requests.{SameBase, PutOpens, WriteOpens};
     ghost use Rattle.sb_core.specs.Writing.{
       is_too_dirty,
-      MissingRule,
+      UnheldRule,
+      DirtiesTooMany,
+      bytes_of,
       AnswersWrite,
       CopiesWrite,
       CopiesPut,
@@ -59,13 +52,61 @@ impl Core {
         requires out { length out.old ≡ (geometry_of self.old).block_size }
         ensures represents { Adds self.old self.new
             (write_entry pass (reading_at now self.old) part bytes.now out.new result) }
-        ensures answer { AnswersWrite self.old (reading_at now self.old) part result }
+        ensures answer { AnswersWrite self.old (reading_at now self.old) part bytes.now result }
         ensures copies { CopiesWrite self.old out.new result }
         ensures opens { WriteOpens self.new pass result }
         ensures leads { WriteLeads self.old self.new pass part.block out.new result }
         ensures open { KeepsOpen self.old self.new }
         ensures base { SameBase self.old self.new }
         ensures reading { reading_of self.new ≡ reading_at now self.old }
+        ensures signals { KeepsSignals self.old self.new }
+    {
+        self.write_bytes(now, pass, part, Bytes::Given(bytes), out)
+    }
+
+    /// Writes zeros to a part of a block. `out` is one block long, and has the body where the answer is a PUT. Where the
+    /// block has no entry and is known to be zeros, no byte is written.
+    pub fn zero(&mut self, now: u64, pass: u64, part: Part, out: &mut [u8]) -> WriteStep
+        requires now { now ≤ 2 ^ 62 }
+        requires part { IsPart (geometry_of self.old) part }
+        requires out { length out.old ≡ (geometry_of self.old).block_size }
+        ensures represents { Adds self.old self.new
+            (write_entry pass (reading_at now self.old) part (zeros part.length) out.new result) }
+        ensures answer { AnswersWrite self.old (reading_at now self.old) part (zeros part.length) result }
+        ensures copies { CopiesWrite self.old out.new result }
+        ensures opens { WriteOpens self.new pass result }
+        ensures leads { WriteLeads self.old self.new pass part.block out.new result }
+        ensures open { KeepsOpen self.old self.new }
+        ensures base { SameBase self.old self.new }
+        ensures reading { reading_of self.new ≡ reading_at now self.old }
+        ensures signals { KeepsSignals self.old self.new }
+    {
+        self.write_bytes(now, pass, part, Bytes::Zeros, out)
+    }
+
+    /// Writes to a part of a block.
+    fn write_bytes(
+        &mut self,
+        now: u64,
+        pass: u64,
+        part: Part,
+        bytes: Bytes<'_>,
+        out: &mut [u8],
+    ) -> WriteStep
+        requires now { now ≤ 2 ^ 62 }
+        requires part { IsPart self.old.geometry part }
+        requires bytes { length (bytes_of part bytes) ≡ part.length }
+        requires out { length out.old ≡ self.old.geometry.block_size }
+        ensures represents { Adds self.old self.new
+            (write_entry pass (reading_at now self.old) part (bytes_of part bytes.entry) out.new result) }
+        ensures answer { AnswersWrite self.old (reading_at now self.old) part (bytes_of part bytes.entry) result }
+        ensures copies { CopiesWrite self.old out.new result }
+        ensures opens { WriteOpens self.new pass result }
+        ensures leads { WriteLeads self.old self.new pass part.block out.new result }
+        ensures open { KeepsOpen self.old self.new }
+        ensures base { SameBase self.old self.new }
+        ensures reading { reading_of self.new ≡ reading_at now self.old }
+        ensures signals { KeepsSignals self.old self.new }
     {
         let place = self.tick(now);
         if self.is_missing(part.block) {
@@ -74,58 +115,118 @@ impl Core {
         if !self.holds(part.block) {
             return WriteStep::Wait(Why::Busy(part.block));
         }
-        if self.is_clean(part.block) && self.is_too_dirty() {
+        if self.is_one_too_many(part, bytes) {
             return put_step(self.put_dirty(pass, out));
         }
-        self.write_part(place, part, bytes);
+        self.write_part(place, part, bytes, out);
         WriteStep::Done
     }
 
-    /// Writes a part of a block that has no entry.
+    /// Writes to a part of a block that has no entry.
     fn write_missing(
         &mut self,
         place: u64,
         pass: u64,
         part: Part,
-        bytes: &[u8],
+        bytes: Bytes<'_>,
         out: &mut [u8],
     ) -> WriteStep
         requires part { IsPart self.old.geometry part }
         requires missing { get self.old.blocks.cached part.block ≡ None }
-        requires bytes { length bytes.now ≡ part.length }
+        requires bytes { length (bytes_of part bytes) ≡ part.length }
         requires out { length out.old ≡ self.old.geometry.block_size }
-        ensures adds { AddsAt self.old self.new place pass (write_kind part bytes.now out.new result) }
-        ensures rule { MissingRule self.old.window self.old.reading self.old.settings self.old.blocks part
-            (nat_eq part.length self.old.blocks.geometry.block_size) result }
+        ensures adds { AddsAt self.old self.new place pass
+            (write_kind part (bytes_of part bytes.entry) out.new result) }
+        ensures rule { UnheldRule self.old.window self.old.reading self.old.settings self.old.blocks part.block
+            (marks_of self.old part.block && is_zeros (bytes_of part bytes.entry))
+            (marks_of self.old part.block || nat_eq part.length self.old.blocks.geometry.block_size) result }
         ensures copies { CopiesWrite self.old out.new result }
         ensures opens { WriteOpens self.new pass result }
         ensures leads { WriteLeads self.old self.new pass part.block out.new result }
         ensures open { KeepsOpen self.old self.new }
         ensures base { SameBase self.old self.new }
         ensures reading { reading_of self.new ≡ reading_of self.old }
+        ensures signals { KeepsSignals self.old self.new }
     {
-        if self.is_whole(part) && self.is_too_dirty() {
+        if self.stays_zeros(part, bytes) {
+            return WriteStep::Done;
+        }
+        let fills = self.fills(part);
+        if fills && self.is_too_dirty() {
             return put_step(self.put_dirty(pass, out));
         }
         if self.blocks.free() == 0 {
             return room_step(self.make_room(pass, out));
         }
-        if self.is_whole(part) {
-            self.write_part(place, part, bytes);
+        if fills {
+            self.write_part(place, part, bytes, out);
             return WriteStep::Done;
         }
         WriteStep::Get(self.begin_get(pass, part.block))
     }
 
-    /// Writes a part of a block that is held, or a whole block where an entry is free.
-    fn write_part(&mut self, place: u64, part: Part, bytes: &[u8])
+    /// Writes to a part of a block that is held, or where an entry is free to a whole block or to one that is known to be
+    /// zeros. Zeros are written from `out`.
+    fn write_part(&mut self, place: u64, part: Part, bytes: Bytes<'_>, out: &mut [u8])
+        requires part { IsPart self.old.geometry part }
+        requires bytes { length (bytes_of part bytes) ≡ part.length }
+        requires out { length out.old ≡ self.old.geometry.block_size }
+        requires may { MayWritePart self.old.blocks (marks_of self.old part.block) part
+            (get self.old.blocks.cached part.block) }
+        ensures { WritesPart self.old self.new place part (bytes_of part bytes.entry) }
+    {
+        match bytes {
+            Bytes::Given(bytes) => self.write_given(place, part, bytes),
+            Bytes::Zeros => {
+                let zeros = &mut out[..part.length as usize];
+                fill_zeros(zeros);
+                self.write_given(place, part, zeros);
+            }
+        }
+    }
+
+    /// Writes these bytes.
+    fn write_given(&mut self, place: u64, part: Part, bytes: &[u8])
         requires part { IsPart self.old.geometry part }
         requires bytes { length bytes.now ≡ part.length }
-        requires may { MayWritePart self.old.blocks false part (get self.old.blocks.cached part.block) }
+        requires may { MayWritePart self.old.blocks (marks_of self.old part.block) part
+            (get self.old.blocks.cached part.block) }
         ensures { WritesPart self.old self.new place part bytes.now }
     {
+        let known_zero = self.marked(part.block);
         self.blocks
-            .write_part(self.reading, place, self.epoch, part, bytes, false);
+            .write_part(self.reading, place, self.epoch, part, bytes, known_zero);
+    }
+
+    /// Whether a write would make one more block dirty than may be. The bytes are looked at only where the block is clean
+    /// and known to be zeros.
+    fn is_one_too_many(&self, part: Part, bytes: Bytes<'_>) -> bool
+        requires part { IsPart self.now.geometry part }
+        requires held { passes is_held (get self.now.blocks.cached part.block) ≡ true }
+        requires bytes { length (bytes_of part bytes) ≡ part.length }
+        ensures { DirtiesTooMany self.now part (bytes_of part bytes.entry)
+            (get self.now.blocks.cached part.block) result }
+    {
+        self.is_clean(part.block)
+            && self.is_too_dirty()
+            && !(self.stays_zeros(part, bytes) && self.blocks.is_zeros_around(part))
+    }
+
+    /// Whether zeros are written to a block that is known to be zeros.
+    fn stays_zeros(&self, part: Part, bytes: Bytes<'_>) -> bool
+        requires on_disk { part.block < self.now.geometry.blocks }
+        ensures { result ≡ (marks_of self.now part.block && is_zeros (bytes_of part bytes.entry)) }
+    {
+        self.marked(part.block) && bytes.are_zeros(part)
+    }
+
+    /// Whether a write of this part alone says what its block holds: it is a whole block, or one that is known to be zeros.
+    fn fills(&self, part: Part) -> bool
+        requires on_disk { part.block < self.now.geometry.blocks }
+        ensures { result ≡ (marks_of self.now part.block ||
+            nat_eq part.length self.now.blocks.geometry.block_size) }
+    {
+        self.marked(part.block) || part.length == self.geometry.block_size
     }
 
     /// Begins the next PUT where as many blocks are dirty as may be.
@@ -140,22 +241,16 @@ impl Core {
         ensures open { KeepsOpen self.old self.new }
         ensures base { SameBase self.old self.new }
         ensures reading { reading_of self.new ≡ reading_of self.old }
+        ensures signals { KeepsSignals self.old self.new }
     {
         self.put_next(pass, None, out)
     }
 
     /// Whether as many blocks are dirty as may be, where there is a limit.
-    fn is_too_dirty(&self) -> bool
+    pub(crate) fn is_too_dirty(&self) -> bool
         ensures { result ≡ is_too_dirty self.now.settings self.now.blocks.cached }
     {
         self.settings.max_dirty != 0 && self.settings.max_dirty <= self.blocks.dirty()
-    }
-
-    /// Whether a part is a whole block.
-    fn is_whole(&self, part: Part) -> bool
-        ensures { result ≡ nat_eq part.length self.now.blocks.geometry.block_size }
-    {
-        part.length == self.geometry.block_size
     }
 
     /// Whether a block is clean.
@@ -170,33 +265,6 @@ impl Core {
             Look::Writing => false,
             Look::Writing2 => false,
         }
-    }
-
-    /// Ends a PUT, ok or not.
-    pub fn put_end(&mut self, now: u64, pass: u64, job: PutJob, ok: bool)
-        requires now { now ≤ 2 ^ 62 }
-        requires job { HasPut self.old pass job }
-        ensures represents { Adds self.old self.new (put_end_entry pass (reading_at now self.old) job ok) }
-        ensures idle { IsIdleBut job.block self.old → IsIdle self.new }
-        ensures closer { ok ≡ true → IsCloser self.old self.new }
-        ensures dirty { ok ≡ false → IsDirty self.new job.block }
-        ensures others { KeepsOthers job.block self.old self.new }
-        ensures window { window_of self.new ≡ ended (window_of self.old) job.block (reading_at now self.old) ok }
-        ensures base { SameBase self.old self.new }
-        ensures reading { reading_of self.new ≡ reading_at now self.old }
-    {
-        let PutJob { block, zeros: _ } = job;
-        let _place = self.tick(now);
-        self.end_put(block, ok);
-    }
-
-    /// The PUT of a block ends.
-    fn end_put(&mut self, block: u32, ok: bool)
-        requires open { is_some (put_in (get self.old.blocks.cached block)) ≡ true }
-        ensures { EndsWrite self.old self.new block ok }
-    {
-        self.blocks.end_write(block, self.reading, ok);
-        self.window.end_put(block, self.reading, ok);
     }
 }
 

@@ -1,13 +1,14 @@
-use Rattle.std.proofs.Common.{Option, Some, None, ℕ, Bool}
-use Rattle.sb_core.specs.declared.machine.Core.{Core}
-use Rattle.sb_core.specs.Leads.{KeepsOpen}
-use Rattle.sb_core.specs.Trials.{KeepsPut}
+use Rattle.sb_core.proofs.KeptPuts.{kept}
 use Rattle.sb_core.proofs.trials.reads.Goals as goal
-
-kept : (old new : Core) (opened : Option (ℕ × Bool)) → KeepsOpen old new → KeepsPut old opened → KeepsPut new opened
-kept old new None keeps open_ = tt
-kept old new (Some put) keeps open_ = keeps.puts put.0 (record { pass = 1; zeros = put.1 }) open_
 
 pub returns-in-Done-clause-open : goal.returns-in-Done-clause-open
 returns-in-Done-clause-open c =
+    kept c.args.core.now c.read.new.self c.args.opened.now c.read.ensures.open c.requires.open
+
+pub returns-in-Wait-clause-open : goal.returns-in-Wait-clause-open
+returns-in-Wait-clause-open c =
+    kept c.args.core.now c.read.new.self c.args.opened.now c.read.ensures.open c.requires.open
+
+pub returns-in-Dropped-clause-open : goal.returns-in-Dropped-clause-open
+returns-in-Dropped-clause-open c =
     kept c.args.core.now c.read.new.self c.args.opened.now c.read.ensures.open c.requires.open

@@ -1,4 +1,4 @@
-use Rattle.std.proofs.Common.{◌≡◌, ◌<◌, ◌∙◌, Some, None, subst, sym, ap}
+use Rattle.std.proofs.Common.{◌≡◌, ◌<◌, ◌∙◌, Some, subst, sym, ap}
 use Rattle.std.specs.FinMap.{get}
 use Rattle.sb_base.specs.Lines.{shown_of}
 use Rattle.sb_base.specs.declared.entry.EntryKind.TheVariants as kind
@@ -7,7 +7,6 @@ use Rattle.sb_blocks.specs.Cached.{get_in}
 use Rattle.sb_blocks.specs.Caches.{CacheState}
 use Rattle.sb_core.specs.Progress.{steps_left_in}
 use Rattle.sb_core.specs.Leads.{OthersIdle, steps_left}
-use Rattle.sb_history.specs.Cache.{answer_content}
 use Rattle.sb_core.specs.Judging.{is_taken}
 use Rattle.sb_core.specs.Steps.{ShownFits}
 use Rattle.sb_core.specs.Cores.{TakesAnswer}
@@ -25,8 +24,7 @@ returns-clause-represents c =
     let opened : get_in (get mid.blocks.cached job.block) ≡ Some get_ = rw c.tick-place.ensures.blocks c.requires.job in
     let fits : ShownFits mid.geometry.block_size job.verify answer =
     rw c.tick-place.ensures.geometry c.requires.answer in
-    let does = subst (TakesAnswer mid c.take.new.self c.tick-place.result job.block
-    (answer_content mid.geometry.block_size None answer)) c.is_taken.ensures c.take.ensures in
+    let does = subst (TakesAnswer mid c.take.new.self c.tick-place.result job.block answer) c.is_taken.ensures c.take.ensures in
     adds_ticked c.args.self.now mid c.take.new.self c.args.now c.tick-place.result c.args.pass
     (kind.GetEnd job.block answer job.verify (is_taken c.judge-outcome.result)) c.tick-place.ensures
     (get_ends_from mid c.take.new.self c.tick-place.result job.block get_ answer c.judge-outcome.result opened fits
@@ -52,9 +50,7 @@ returns-clause-closer c took =
     let get_ : OpenGet = record { pass = c.args.pass; begun = job.begun; expect = job.expect; verify = job.verify } in
     let answer = shown_of c.args.answer in
     let opened : get_in (get mid.blocks.cached job.block) ≡ Some get_ = rw c.tick-place.ensures.blocks c.requires.job in
-    let does = subst (TakesAnswer mid c.take.new.self c.tick-place.result job.block
-    (answer_content mid.geometry.block_size None answer)) c.is_taken.ensures c.take.ensures in
+    let does = subst (TakesAnswer mid c.take.new.self c.tick-place.result job.block answer) c.is_taken.ensures c.take.ensures in
     subst (λ (b : CacheState). steps_left c.take.new.self job.block < steps_left_in b job.block)
     c.tick-place.ensures.blocks
-    (take_closer mid c.take.new.self c.tick-place.result job.block get_
-    (answer_content mid.geometry.block_size None answer) c.judge-outcome.result opened does took)
+    (take_closer mid c.take.new.self c.tick-place.result job.block get_ answer c.judge-outcome.result opened does took)

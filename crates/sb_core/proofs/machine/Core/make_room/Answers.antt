@@ -24,6 +24,7 @@ invariant_of-self c =
       opens = rw c.drop_block.ensures (opens_gone core.blocks.cached core.window c.in-Some.block
           (clean_no_put (get core.blocks.cached c.in-Some.block) clean) core.opens);
       expects = rw c.drop_block.ensures (expects_gone core.settings core.blocks.cached c.in-Some.block core.expects);
+      its_marks = core.its_marks;
       absent_of = core.absent_of;
     }
 

@@ -27,7 +27,7 @@ returns-clause-idle c idle =
     let mid = c.tick-place.new.self in
     let opened : put_in (get mid.blocks.cached c.args.job.block) ≡ Some put =
     rw c.tick-place.ensures.blocks c.requires.job in
-    end_idle mid c.end_put.new.self c.args.job.block c.args.ok put opened c.end_put.ensures
+    end_idle mid c.end_put.new.self c.args.job.block c.args.job.zeros c.args.ok put opened c.end_put.ensures
     (subst (λ (b : CacheState). OthersIdle c.args.job.block b.cached) (sym c.tick-place.ensures.blocks) idle)
 
 pub returns-clause-closer : goal.returns-clause-closer
@@ -37,7 +37,7 @@ returns-clause-closer c is =
     let opened : put_in (get mid.blocks.cached c.args.job.block) ≡ Some put =
     rw c.tick-place.ensures.blocks c.requires.job in
     since_closer c.args.self.now mid c.end_put.new.self c.args.now c.tick-place.result c.tick-place.ensures
-    (end_closer mid c.end_put.new.self c.args.job.block c.args.ok put opened c.end_put.ensures is)
+    (end_closer mid c.end_put.new.self c.args.job.block c.args.job.zeros c.args.ok put opened c.end_put.ensures is)
 
 pub returns-clause-dirty : goal.returns-clause-dirty
 returns-clause-dirty c is =
@@ -45,9 +45,9 @@ returns-clause-dirty c is =
     let mid = c.tick-place.new.self in
     let opened : put_in (get mid.blocks.cached c.args.job.block) ≡ Some put =
     rw c.tick-place.ensures.blocks c.requires.job in
-    end_dirty mid c.end_put.new.self c.args.job.block c.args.ok put opened c.end_put.ensures is
+    end_dirty mid c.end_put.new.self c.args.job.block c.args.job.zeros c.args.ok put opened c.end_put.ensures is
 
 pub returns-clause-others : goal.returns-clause-others
 returns-clause-others c other apart =
-    end_others c.tick-place.new.self c.end_put.new.self c.args.job.block c.args.ok c.end_put.ensures other apart
+    end_others c.tick-place.new.self c.end_put.new.self c.args.job.block c.args.job.zeros c.args.ok c.end_put.ensures other apart
     ∙ ap (λ (b : CacheState). get b.cached other) c.tick-place.ensures.blocks

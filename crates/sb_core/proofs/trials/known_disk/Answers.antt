@@ -1,5 +1,5 @@
 use Rattle.std.proofs.Common.{arith, refl}
-use Rattle.sb_core.proofs.trials.disk.Goals as goal
+use Rattle.sb_core.proofs.trials.known_disk.Goals as goal
 
 pub new-requires-clause-sound : goal.new-requires-clause-sound
 unfolding lib.Count.ones

@@ -1,0 +1,42 @@
+//! The bytes of a write.
+
+ghost use Rattle.std.specs.Prelude.{◌≡◌, length};
+ghost use Rattle.sb_history.specs.Contents.{zeros, is_zeros};
+
+use sb_base::Part;
+
+/// What a write writes to its part.
+#[derive(Drop, Clone, Copy)]
+pub(crate) enum Bytes<'a> {
+    /// These bytes, as many as the part has.
+    Given(&'a [u8]),
+    Zeros,
+}
+
+impl Bytes<'_> {
+    ghost use Rattle.sb_core.specs.Writing.{bytes_of};
+
+    /// Whether all are zeros.
+    pub(crate) fn are_zeros(self, part: Part) -> bool
+        ensures { result ≡ is_zeros (bytes_of part self.entry) }
+    {
+        match self {
+            Bytes::Given(bytes) => is_zeros(bytes),
+            Bytes::Zeros => true,
+        }
+    }
+}
+
+/// Whether all bytes are zeros.
+pub(crate) fn is_zeros(bytes: &[u8]) -> bool
+    ensures { result ≡ is_zeros bytes.now }
+{
+    bytes.iter().all(|byte| *byte == 0)
+}
+
+/// Makes all bytes zeros.
+pub(crate) fn fill_zeros(out: &mut [u8])
+    ensures { out.new ≡ zeros (length out.old) }
+{
+    out.fill(0);
+}
