@@ -6,3 +6,9 @@ pub mod Requesting
 pub mod Turning
 mod Rooms
 mod Flushing
+mod Opening
+pub mod SharedTurns
+pub mod SharedRuns
+pub mod SharedRequests
+pub mod WorkTurns
+pub mod WorkRuns

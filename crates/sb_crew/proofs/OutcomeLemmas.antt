@@ -1,5 +1,6 @@
 -- What the entries of two runs came to.
-use Rattle.std.proofs.Common.{ℕ, ◌≡◌, List, [], ◌∷◌, ◌++◌, refl, sym, ◌∙◌, ap, subst, append_assoc, append-nil}
+use Rattle.std.proofs.Common.{ℕ, ◌≡◌, Bool, true, false, List, [], ◌∷◌, ◌++◌, refl, sym, ◌∙◌, ap, subst, append_assoc}
+use Rattle.std.proofs.Common.{append-nil}
 use Rattle.std.specs.List.{AllByRecursion}
 use Rattle.sb_base.specs.declared.part.Part.{Part}
 use Rattle.sb_base.specs.declared.entry.Entry.{Entry}
@@ -13,7 +14,7 @@ use Rattle.sb_crew.specs.declared.calls.CallFault.{CallFault}
 use Rattle.sb_crew.specs.declared.calls.CallFault.TheVariants.{StoreFault, Memory, StaleRead, ClockStalled}
 use Rattle.sb_crew.specs.Outcomes.{outcomes_of, bytes_read, blocks_asked, outcome_of, bytes_of, asked_of, IsBlockOf}
 use Rattle.sb_crew.specs.Outcomes.{AsksOnly, FailsBy, IsStale, IsStalled, HasCause, PausesReach, ReachesBefore}
-use Rattle.sb_crew.specs.Outcomes.{NoneFail, ReachesBut}
+use Rattle.sb_crew.specs.Outcomes.{NoneFail, ReachesBut, PausesReachIf, ReachesButIf}
 use Rattle.sb_crew.specs.Scenes.{Deed, followed}
 
 -- the outcomes of two runs
@@ -86,6 +87,7 @@ cause_stays base (StaleRead block expected shown begun) x y none cause = (
 cause_stays base (ClockStalled before asked after) x y none cause = (
   stalled_still before asked after x.entries y.entries x.ticks y.ticks cause.0,
   none_fail_join y.entries x.entries cause.1 none,
+  cause.2,
 )
 
 -- pauses that reach, behind others that do
@@ -115,3 +117,18 @@ reaches_but_join (StoreFault status) ss ts first second = reaches_join ss ts fir
 reaches_but_join Memory ss ts first second = reaches_join ss ts first second
 reaches_but_join (StaleRead block expected shown begun) ss ts first second = reaches_join ss ts first second
 reaches_but_join (ClockStalled before asked after) ss ts first second = before_join ss ts first second
+
+-- the same of one of many callers, or of one alone
+pub reaches_if_none : (alone : Bool) → PausesReachIf alone []
+reaches_if_none true = tt
+reaches_if_none false = tt
+
+pub reaches_if_join : (alone : Bool) (ss ts : List Tick) → PausesReachIf alone ss → PausesReachIf alone ts
+    → PausesReachIf alone (ts ++ ss)
+reaches_if_join true ss ts first second = reaches_join ss ts first second
+reaches_if_join false ss ts first second = tt
+
+pub reaches_but_if_join : (alone : Bool) (fault : CallFault) (ss ts : List Tick) → PausesReachIf alone ss
+    → ReachesButIf alone fault ts → ReachesButIf alone fault (ts ++ ss)
+reaches_but_if_join true fault ss ts first second = reaches_but_join fault ss ts first second
+reaches_but_if_join false fault ss ts first second = tt

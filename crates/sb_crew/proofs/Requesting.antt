@@ -1,5 +1,5 @@
 -- What a request came to: the calls of a GET and of a PUT, their ends, and the causes of a call that failed by them.
-use Rattle.std.proofs.Common.{ℕ, ◌≡◌, ◌≢◌, ◌+◌, Bool, true, false, if◌then◌else◌, List, [], ◌∷◌, ◌++◌}
+use Rattle.std.proofs.Common.{ℕ, ◌≡◌, ◌≢◌, Bool, true, false, if◌then◌else◌, List, [], ◌∷◌, ◌++◌}
 use Rattle.std.proofs.Common.{Option, Some, None, Result, Ok, Err, refl, sym, ◌∙◌, ap, subst, arith}
 use Rattle.std.specs.Str.{bytes_eq}
 use Rattle.std.proofs.lemmas.Slice.Eq.{bytes_eq-Decides}
@@ -57,13 +57,13 @@ expect_of None = None
 expect_of (Some get) = get.expect
 
 -- the pause after the answer to a job is that after the GET that is open in the history
-pauses_so : (limit : ℕ) (job : GetJob) (fetch : Option Fetch) (digest : Option (List ℕ)) (pause : Option ℕ)
+pub pauses_so : (limit pass : ℕ) (job : GetJob) (fetch : Option Fetch) (digest : Option (List ℕ)) (pause : Option ℕ)
     → open_get fetch
-    ≡ Some (record { pass = 1; begun = job.begun; expect = job.expect; verify = job.verify })
+    ≡ Some (record { pass = pass; begun = job.begun; expect = job.expect; verify = job.verify })
     → PausesWhere (DiffersInTime limit job.begun job.expect digest) stale_pause pause
     → PausesWhere (IsAskedAnew limit fetch digest) stale_pause pause
-pauses_so limit job None digest pause is pauses = absurd (cc)
-pauses_so limit job (Some fetch) digest pause is pauses =
+pauses_so limit pass job None digest pause is pauses = absurd (cc)
+pauses_so limit pass job (Some fetch) digest pause is pauses =
     let P : ℕ → Type 0 = λ n. PausesWhere (DiffersInTime limit n fetch.expect digest) stale_pause pause in
     let Q : Option Expect → Type 0 = λ e. PausesWhere (DiffersInTime limit job.begun e digest) stale_pause pause in
     subst P (sym (ap begun_of is)) (subst Q (sym (ap expect_of is)) pauses)
@@ -140,7 +140,7 @@ differs_in_time limit begun (Some expect) (Some digest) expected shown late stal
     )
 
 -- a late GET has to show a digest whose put ended long before
-long_expected : (limit begun : ℕ) (expect : Option Expect) (expected : List ℕ) → IsExpected expected expect
+pub long_expected : (limit begun : ℕ) (expect : Option Expect) (expected : List ℕ) → IsExpected expected expect
     → is_late limit begun expect ≡ true → IsLongExpected limit begun expected expect
 long_expected limit begun None expected is late = is
 long_expected limit begun (Some expect) expected is late = (is, late)
@@ -186,7 +186,7 @@ fails_by base link.Memory ended entry entries asked calls ticks is failure cause
     (failure, cause, none)
 
 -- an answer that has a digest is no failure, and neither is one that was taken
-digest_none_fails : (block_size block : ℕ) (verify : Option (List ℕ)) (answered : Result Got LinkFault)
+pub digest_none_fails : (block_size block : ℕ) (verify : Option (List ℕ)) (answered : Result Got LinkFault)
     (bytes shown : List ℕ) (taken : Bool) → answer_digest block_size verify (shown_for answered bytes) ≡ Some shown
     → outcome.IsFailure (kind.GetEnd block (shown_for answered bytes) verify taken) → ⊥
 digest_none_fails block_size block verify (Ok got.Absent) bytes shown taken is fails = fails
@@ -194,7 +194,7 @@ digest_none_fails block_size block verify (Ok got.Bytes) bytes shown taken is fa
 digest_none_fails block_size block verify (Ok got.Same) bytes shown taken is fails = fails
 digest_none_fails block_size block verify (Err fault) bytes shown taken is fails = cc
 
-taken_none_fails : (block_size block : ℕ) (expect : Option Expect) (verify : Option (List ℕ))
+pub taken_none_fails : (block_size block : ℕ) (expect : Option Expect) (verify : Option (List ℕ))
     (answered : Result Got LinkFault) (bytes : List ℕ) (taken : Bool)
     → judged expect (answer_digest block_size verify (shown_for answered bytes)) ≡ done.Taken
     → outcome.IsFailure (kind.GetEnd block (shown_for answered bytes) verify taken) → ⊥
@@ -245,7 +245,7 @@ module _ {names names' : Naming} {core core' : Core} {tape tape' : Option (List 
           event = event;
           pause = pause;
           pauses = λ past is stands.
-              pauses_so (settings_of core).stale_limit job _ _ pause ((stands.blocks job.block).asks ∙ opened) pauses;
+              pauses_so (settings_of core).stale_limit 1 job _ _ pause ((stands.blocks job.block).asks ∙ opened) pauses;
           paused = paused;
           readings = readings;
         };
@@ -295,7 +295,7 @@ module _ {names names' : Naming} {core core' : Core} {tape tape' : Option (List 
       event = event;
       pause = None;
       pauses = λ past held stands.
-          pauses_so (settings_of core).stale_limit job _ _ None ((stands.blocks job.block).asks ∙ opened)
+          pauses_so (settings_of core).stale_limit 1 job _ _ None ((stands.blocks job.block).asks ∙ opened)
           (failure_agrees (settings_of core).stale_limit job.begun (geometry_of core).block_size job.expect job.verify);
       paused = refl;
       readings = gains_nothing clock';
@@ -336,7 +336,7 @@ module _ {names names' : Naming} {core core' : Core} {tape tape' : Option (List 
           event = event;
           pause = None;
           pauses = λ past held stands.
-              pauses_so (settings_of core).stale_limit job _ _ None ((stands.blocks job.block).asks ∙ opened)
+              pauses_so (settings_of core).stale_limit 1 job _ _ None ((stands.blocks job.block).asks ∙ opened)
               (late_is_over (settings_of core).stale_limit job.begun job.expect _ late);
           paused = refl;
           readings = gains_nothing clock';
@@ -381,7 +381,7 @@ module _ {names names' : Naming} {core core' : Core} {tape tape' : Option (List 
       (Some stale_pause) paused.after opened called counted took event
       (differs_in_time (settings_of core).stale_limit job.begun job.expect _ expected shown late other, refl)
       paused.paused paused.readings
-      (paused.cause (base_of core) (get_ended job reading answered bytes (is_taken outcome)) (get_begun job ∷ [])
+      (paused.cause (base_of core) refl (get_ended job reading answered bytes (is_taken outcome)) (get_begun job ∷ [])
       (call.Get (name_of names job.block) job.verify (get_reply answered bytes) ∷ []) [] (ap is_taken is, refl) (
         digest_none_fails (geometry_of core).block_size job.block job.verify answered bytes shown (is_taken outcome)
             other.digest_is,

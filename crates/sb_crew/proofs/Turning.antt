@@ -65,8 +65,8 @@ still_some false place before some = some
 -- an event leaves the base
 pub same_base_of : {old new : Core} → SameBase old new → base_of new ≡ base_of old
 same_base_of {old} {new} same =
-    ap (λ (geometry : Geometry). record { geometry = geometry; settings = settings_of new }) same.geometry
-    ∙ ap (λ (settings : Settings). record { geometry = geometry_of old; settings = settings }) same.settings
+    ap (λ (geometry : Geometry). record { geometry = geometry; settings = settings_of new; alone = true }) same.geometry
+    ∙ ap (λ (settings : Settings). record { geometry = geometry_of old; settings = settings; alone = true }) same.settings
 
 -- a flush that has begun
 begun_after : (mark place : ℕ) (of : EntryKind) (before : Option ℕ) → IsSome before
@@ -85,7 +85,7 @@ abbrev pub event : ℕ → EntryKind → Entry
 event reading of = record { pass = 1; reading = reading; kind = of }
 
 -- the link's log says what the entry says
-replies_fit : (result : Result Got LinkFault) (bytes : List ℕ)
+pub replies_fit : (result : Result Got LinkFault) (bytes : List ℕ)
     → Replies (shown_for result bytes) (get_reply result bytes)
 replies_fit (Ok got.Absent) bytes = refl
 replies_fit (Ok got.Bytes) bytes = refl
@@ -93,7 +93,7 @@ replies_fit (Ok got.Same) bytes = refl
 replies_fit (Err fault) bytes = (fault, refl)
 
 -- the end of a put says whether a fault came
-ended_so : (sent : Result Unit LinkFault) → is_none (fault_of sent) ≡ is_ok sent
+pub ended_so : (sent : Result Unit LinkFault) → is_none (fault_of sent) ≡ is_ok sent
 ended_so (Ok done) = refl
 ended_so (Err fault) = refl
 
@@ -126,7 +126,7 @@ risen_by before now (Err link.Memory) counts = inl (omega (arith, counts.later))
 risen_by before now (Err (link.Failed status)) counts = rose_by_one before now (counts.rises (status, refl))
 
 -- a request counts as a failure where it failed for another cause than memory
-counts_so : {T : Type 0} (before now : ℕ) (result : Result T LinkFault) (asked : Call)
+pub counts_so : {T : Type 0} (before now : ℕ) (result : Result T LinkFault) (asked : Call)
     → outcome.fault_of asked ≡ fault_of result → CountsFaults before now (HasFailed result)
     → Counts before now (asked ∷ [])
 counts_so before now result asked is counts =
@@ -135,7 +135,7 @@ counts_so before now result asked is counts =
     record { later = counts.later; risen = subst P (sym is) (risen_by before now result counts) }
 
 -- the fault of a GET, and of a put
-get_fault : (name : List ℕ) (verify : Option (List ℕ)) (result : Result Got LinkFault) (bytes : List ℕ)
+pub get_fault : (name : List ℕ) (verify : Option (List ℕ)) (result : Result Got LinkFault) (bytes : List ℕ)
     → outcome.fault_of (call.Get name verify (get_reply result bytes)) ≡ fault_of result
 get_fault name verify (Ok got.Absent) bytes = refl
 get_fault name verify (Ok got.Bytes) bytes = refl
@@ -252,7 +252,7 @@ module _ {Then : List Entry → Type 0} {met : List Outcome} {names names1 : Nam
       → (IsFailure of → ⊥) → ((past : List Entry) → PausesAfter (geometry_of b) (settings_of b) past now of None)
       → EventWhere Then (disk_at names1 b tape1) (disk_at names2 c tape2) now entry
       → Does (Did (scene_at names a tape log faults clock) (scene_at names2 c tape2 log1 faults1 clock1)) parts
-      (λ (deed : Deed). Meets (outcome_of of ++ met) deed × (bytes_read deed.entries ≡ bytes_of of))
+      (λ (deed : Deed). Meets (base_of a) (outcome_of of ++ met) deed × (bytes_read deed.entries ≡ bytes_of of))
   ends_with before reading of is quiet asks succeeds plain did = record {
     deed = record { entries = event reading of ∷ before.deed.entries; calls = before.deed.calls; ticks = tick.Taken now ∷ before.deed.ticks };
     done = one_turn before (plain_turn None is did plain (gains_nothing clock1)) quiet;
@@ -307,7 +307,7 @@ module _ {Then : List Entry → Type 0} {met : List Outcome} {names names1 : Nam
       some = some;
       met = ap (λ (os : List Outcome). want ++ os) before.met_so;
       reached = (pause_is waits.paused).reaches before.deed.ticks before.reached;
-      cause = (pause_is waits.paused).cause (base_of a) (event reading (kind.Waited why)) before.deed.entries
+      cause = (pause_is waits.paused).cause (base_of a) refl (event reading (kind.Waited why)) before.deed.entries
           before.deed.calls before.deed.ticks waits.pause_is ((λ fails. fails), before.none_fail);
     };
     asks = record { asked = before.asks.asked };

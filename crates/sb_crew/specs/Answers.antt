@@ -32,3 +32,8 @@ call_fault (flush.ClockStalled before asked after) = ClockStalled before asked a
 abbrev pub as_call : {T : Type 0} → Result T FlushFault → Result T CallFault
 as_call (Ok value) = Ok value
 as_call (Err fault) = Err (call_fault fault)
+
+-- how a call goes on behind a put
+abbrev pub put_result : Result Unit LinkFault → Result Unit FlushFault
+put_result (Ok done) = Ok done
+put_result (Err fault) = Err (fault_for fault)

@@ -10,3 +10,9 @@ pub mod Ready
 pub mod Joins
 pub mod Disks
 pub mod Scenes
+pub mod Contents
+pub mod Sharing
+pub mod SharedJoins
+pub mod Safety
+pub mod SharedDisks
+pub mod Working

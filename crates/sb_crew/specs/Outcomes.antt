@@ -1,6 +1,6 @@
 -- What the entries of a call of the disk came to. Entries, calls of the link and ticks are newest first.
 use Rattle.std.specs.Prelude.{ℕ, ◌≡◌, ◌≢◌, ◌+◌, ◌<◌, ◌≤◌, ◌⊎◌, length, List, [], ◌∷◌, ◌++◌, Option, Some, None}
-use Rattle.std.specs.Prelude.{Result, Ok, Err, true, false}
+use Rattle.std.specs.Prelude.{Result, Ok, Err, Bool, true, false}
 use Rattle.std.specs.List.{AllByRecursion}
 use Rattle.sb_base.specs.declared.part.Part.{Part}
 use Rattle.sb_base.specs.declared.entry.Entry.{Entry}
@@ -143,14 +143,14 @@ IsStalled before asked after (entry ∷ entries) ticks =
     PausesFor before asked entry.kind × FallsBehind before asked after ticks
 
 -- why a call of a disk with this base failed, by what it did: a request of the link failed, and none before it, or a
--- GET was stale or the clock stood still, and no request failed
+-- GET was stale, or the clock of a caller that has the disk alone stood still, and no request failed
 abbrev pub HasCause : Base → CallFault → Deed → Type 0
 HasCause base (StoreFault status) deed = FailsBy (link.Failed status) deed.entries deed.calls
 HasCause base Memory deed = FailsBy link.Memory deed.entries deed.calls
 HasCause base (StaleRead block expected shown begun) deed =
     IsStale base block expected shown begun deed.entries × NoneFail deed.entries
 HasCause base (ClockStalled before asked after) deed =
-    IsStalled before asked after deed.entries deed.ticks × NoneFail deed.entries
+    IsStalled before asked after deed.entries deed.ticks × NoneFail deed.entries × (base.alone ≡ true)
 
 -- each pause stands between two readings, and the later one is that of the pause's end or above it
 abbrev pub PausesReach : List Tick → Type 0
@@ -173,10 +173,19 @@ abbrev pub ReachesBut : CallFault → List Tick → Type 0
 ReachesBut (ClockStalled before asked after) ticks = ReachesBefore ticks
 ReachesBut fault ticks = PausesReach ticks
 
--- a goal was met, no pause came short, and no request of the link failed
-pub record Meets (goal : List Outcome) (deed : Deed) : Type 0 where
+-- the pauses of a caller that has the disk alone reach; one of many callers doesn't look
+abbrev pub PausesReachIf : Bool → List Tick → Type 0
+PausesReachIf true ticks = PausesReach ticks
+PausesReachIf false ticks = Unit {0}
+
+abbrev pub ReachesButIf : Bool → CallFault → List Tick → Type 0
+ReachesButIf true fault ticks = ReachesBut fault ticks
+ReachesButIf false fault ticks = Unit {0}
+
+-- a goal was met, no pause of a caller that has the disk alone came short, and no request of the link failed
+pub record Meets (base : Base) (goal : List Outcome) (deed : Deed) : Type 0 where
   pub met : outcomes_of deed.entries ≡ goal
-  pub reached : PausesReach deed.ticks
+  pub reached : PausesReachIf base.alone deed.ticks
   pub none_fail : NoneFail deed.entries
 
 -- a proper front of a goal was met, and then a call of the disk failed so
@@ -184,12 +193,12 @@ pub record Stops (base : Base) (goal : List Outcome) (deed : Deed) (fault : Call
   pub missing : List Outcome
   pub some : 0 < length missing
   pub met : missing ++ outcomes_of deed.entries ≡ goal
-  pub reached : ReachesBut fault deed.ticks
+  pub reached : ReachesButIf base.alone fault deed.ticks
   pub cause : HasCause base fault deed
 
 -- a goal was met, or the fault says why it wasn't
 abbrev pub GoalEnds : Base → List Outcome → Result Unit CallFault → Deed → Type 0
-GoalEnds base goal (Ok done) deed = Meets goal deed
+GoalEnds base goal (Ok done) deed = Meets base goal deed
 GoalEnds base goal (Err fault) deed = Stops base goal deed fault
 
 -- what succeeded read these bytes

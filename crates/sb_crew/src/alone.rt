@@ -1,12 +1,13 @@
 //! The disk on one thread.
 
-ghost use Rattle.std.specs.Prelude.{◌≡◌, ◌≤◌, ◌∷◌, [], max, length, vec_len, List, Option};
+ghost use Rattle.std.specs.Prelude.{ℕ, ◌≡◌, ◌≤◌, ◌∷◌, [], false, max, length, vec_len, List, Option};
 ghost use Rattle.sb_base.specs.Lines.{entry_kind_of};
 ghost use Rattle.sb_names.specs.declared.names.TheConstants.{MAX_PREFIX};
 
 use crate::calls::{CallFault, Calls, FlushFault};
 use crate::desk::Desk;
 use crate::names::Names;
+use crate::writes::Content;
 use sb_base::{Geometry, Kind, Line, Part};
 use sb_core::Core;
 use sb_world::{Clock, Link, Tape};
@@ -26,27 +27,53 @@ pub struct Alone<T> {
 
 impl<T: Tape> Alone<T> {
     ghost use Rattle.sb_world.specs.Told.{Gains};
-    ghost use Rattle.sb_core.specs.Cores.{geometry_of, reading_of};
+    ghost use Rattle.sb_core.specs.Cores.{geometry_of, reading_of, marks_of};
+    ghost use Rattle.sb_core.specs.Opening.{opening};
     ghost use Rattle.sb_core.specs.Leads.{IsIdle};
     ghost use Rattle.sb_crew.specs.Disks.{core_of, names_of, tape_of};
     ghost use Rattle.sb_crew.specs.Ready.{IsReady};
 
     /// A disk over a core with no event behind it, whose objects have these names. Their prefix has at most
-    /// `MAX_PREFIX` bytes.
+    /// `MAX_PREFIX` bytes. What the core knows to be zeros opens the history, and is added to the tape.
     pub fn new(core: Core, names: Names, tape: T) -> Alone<T>
         requires idle { IsIdle core }
         requires fresh { reading_of core ≡ 0 }
         requires prefix { length names.prefix ≤ MAX_PREFIX }
         ensures core { core_of result ≡ core }
         ensures names { names_of result ≡ names }
-        ensures tape { tape_of result ≡ tape }
+        ensures opening { Gains (T.told tape) (T.told (tape_of result)) (opening (marks_of core) (geometry_of core).blocks) }
+        ensures unmarked { ((block : ℕ) → marks_of core block ≡ false) → tape_of result ≡ tape }
         ensures ready { IsReady result.core result.reading (geometry_of core).block_size }
     {
-        Alone {
+        let mut disk = Alone {
             core,
             names,
             tape,
             reading: 0,
+        };
+        if disk.core.known_zeros() > 0 {
+            disk.open();
+        }
+        disk
+    }
+
+    /// Adds the opening list to the tape: each block that is known to be zeros, in rising order.
+    fn open(&mut self)
+        ensures told { Gains (T.told self.old.tape) (T.told self.new.tape)
+            (opening (marks_of self.old.core) (geometry_of self.old.core).blocks) }
+        ensures core { self.new.core ≡ self.old.core }
+        ensures names { self.new.names ≡ self.old.names }
+        ensures reading { self.new.reading ≡ self.old.reading }
+    {
+        let blocks = self.core.geometry().blocks;
+        for block in 0..blocks {
+            if self.core.marked(block) {
+                self.tape.add(Line {
+                    pass: 0,
+                    reading: 0,
+                    kind: Kind::KnownZero(block),
+                });
+            }
         }
     }
 
@@ -107,7 +134,11 @@ impl<T: Tape, L: Link, C: Clock> Calls<Desk<L, C>> for Alone<T> {
     }
 
     fn write(&mut self, desk: &mut Desk<L, C>, part: Part, bytes: &[u8]) -> Result<(), CallFault> {
-        self.write_part(desk, part, bytes)
+        self.write_part(desk, part, Content::Bytes(bytes))
+    }
+
+    fn zero(&mut self, desk: &mut Desk<L, C>, part: Part) -> Result<(), CallFault> {
+        self.write_part(desk, part, Content::Zeros)
     }
 
     fn flush(&mut self, desk: &mut Desk<L, C>) -> Result<(), FlushFault> {

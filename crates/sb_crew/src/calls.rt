@@ -2,6 +2,7 @@
 
 ghost use Rattle.std.specs.Prelude.{◌≡◌, length};
 ghost use Rattle.sb_base.specs.Ranges.{IsPart};
+ghost use Rattle.sb_history.specs.Contents.{zeros};
 ghost use Rattle.sb_crew.specs.Bases.{Base};
 ghost use Rattle.sb_crew.specs.Scenes.{Deed, nothing, followed};
 ghost use Rattle.sb_crew.specs.Outcomes.{ReadDoes, WriteDoes, FlushDoes};
@@ -106,6 +107,14 @@ pub trait Calls<K> {
         requires bytes { length bytes.now ≡ part.length }
         ensures ready { ready self.new desk.new }
         ensures did { WriteDoes (base self.old) (did self.old desk.old self.new desk.new) part bytes.now result }
+        ensures base { base self.new ≡ base self.old };
+
+    /// Writes zeros to a part.
+    fn zero(&mut self, desk: &mut K, part: Part) -> Result<(), CallFault>
+        requires ready { ready self.old desk.old }
+        requires part { IsPart (base self.old).geometry part }
+        ensures ready { ready self.new desk.new }
+        ensures did { WriteDoes (base self.old) (did self.old desk.old self.new desk.new) part (zeros part.length) result }
         ensures base { base self.new ≡ base self.old };
 
     /// Has everything written back that was written before.

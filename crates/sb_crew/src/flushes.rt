@@ -13,7 +13,7 @@ use sb_core::{FlushStep, Mark};
 use sb_world::{Clock, Link, Tape};
 
 /// What an answer to a step of a flush is in the history.
-fn flush_kind<'a>(step: &FlushStep, mark: Mark, room: &'a [u8]) -> Kind<'a>
+pub(crate) fn flush_kind<'a>(step: &FlushStep, mark: Mark, room: &'a [u8]) -> Kind<'a>
     ensures { entry_kind_of result ≡ flush_kind mark room.now step.now }
 {
     match step {

@@ -4,14 +4,27 @@
 mod alone;
 mod calls;
 mod desk;
+mod disk;
 mod flushes;
+mod gate;
+mod jobs;
 mod names;
+mod passes;
 mod pauses;
 mod reads;
 mod requests;
+mod shared;
+mod shared_calls;
+mod shared_requests;
+mod turns;
+mod work;
 mod writes;
 
 pub use alone::Alone;
 pub use calls::{CallFault, Calls, FlushFault};
 pub use desk::{Desk, DeskRefused};
+pub use disk::Disk;
+pub use gate::Gate;
 pub use names::Names;
+pub use shared::Shared;
+pub use work::WorkEnd;

@@ -14,7 +14,7 @@ use sb_core::ReadStep;
 use sb_world::{Clock, Link, Tape};
 
 /// What an answer to a read is in the history.
-fn read_kind<'a>(step: &ReadStep, part: Part, out: &'a [u8], room: &'a [u8]) -> Kind<'a>
+pub(crate) fn read_kind<'a>(step: &ReadStep, part: Part, out: &'a [u8], room: &'a [u8]) -> Kind<'a>
     ensures { entry_kind_of result ≡ read_kind part out.now room.now step.now }
 {
     match step {

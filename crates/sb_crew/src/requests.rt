@@ -9,6 +9,7 @@ ghost use Rattle.sb_crew.specs.Answers.{shown_for, fault_for};
 use crate::alone::{Alone, PASS};
 use crate::calls::{CallFault, FlushFault};
 use crate::desk::Desk;
+use crate::names::Names;
 use crate::pauses::pause;
 use sb_base::{Answer, Expect, Kind};
 use sb_core::{GetDone, GetJob, PutJob};
@@ -16,10 +17,10 @@ use sb_names::MAX_NAME;
 use sb_world::{Clock, Got, Link, LinkFault, Tape};
 
 /// The pause before a stale GET is asked anew, in milliseconds.
-const STALE_PAUSE: u64 = 100;
+pub(crate) const STALE_PAUSE: u64 = 100;
 
 /// What a GET showed, with the bytes in its buffer.
-fn answer_of<'a>(got: Result<Got, LinkFault>, room: &'a [u8]) -> Answer<'a>
+pub(crate) fn answer_of<'a>(got: Result<Got, LinkFault>, room: &'a [u8]) -> Answer<'a>
     ensures { shown_of result ≡ shown_for got room.now }
 {
     match got {
@@ -31,14 +32,14 @@ fn answer_of<'a>(got: Result<Got, LinkFault>, room: &'a [u8]) -> Answer<'a>
 }
 
 /// Whether an answer was taken.
-fn is_taken(done: GetDone) -> bool
+pub(crate) fn is_taken(done: GetDone) -> bool
     ensures { result ≡ is_taken done }
 {
     matches!(done, GetDone::Taken)
 }
 
 /// The fault of a call whose request failed so.
-fn fault_for(fault: LinkFault) -> FlushFault
+pub(crate) fn fault_for(fault: LinkFault) -> FlushFault
     ensures { result ≡ fault_for fault }
 {
     match fault {
@@ -49,7 +50,7 @@ fn fault_for(fault: LinkFault) -> FlushFault
 
 /// Whether a GET that began at a reading and has to show a digest began at least so many milliseconds after the end of
 /// the put that left it.
-fn is_late(expect: Option<Expect>, begun: u64, limit: u32) -> bool
+pub(crate) fn is_late(expect: Option<Expect>, begun: u64, limit: u32) -> bool
     ensures { result ≡ is_late limit begun expect }
 {
     match expect {
@@ -59,16 +60,13 @@ fn is_late(expect: Option<Expect>, begun: u64, limit: u32) -> bool
 }
 
 impl<T: Tape> Alone<T> {
-    ghost use Rattle.std.specs.Prelude.{Some, None};
-    ghost use Rattle.sb_world.specs.Calls.{fault_of, HasFailed, IsAsked};
-    ghost use Rattle.sb_world.specs.Told.{Gains, CountsFaults};
+    ghost use Rattle.std.specs.Prelude.{None};
+    ghost use Rattle.sb_world.specs.Calls.{IsAsked};
     ghost use Rattle.sb_history.specs.Contents.{is_zeros};
-    ghost use Rattle.sb_history.specs.Requests.{meta_of, put_call};
     ghost use Rattle.sb_history.specs.Window.{answer_digest};
     ghost use Rattle.sb_core.specs.Cores.{geometry_of, settings_of, reading_of};
     ghost use Rattle.sb_core.specs.Leads.{IsIdleBut, IsCloser, LeavesNothing, steps_left};
     ghost use Rattle.sb_core.specs.Steps.{HasGet, HasPut, get_end_entry};
-    ghost use Rattle.sb_crew.specs.Names.{name_of};
     ghost use Rattle.sb_crew.specs.Ready.{IsReady};
     ghost use Rattle.sb_crew.specs.Disks.{disk_of, scene_of};
     ghost use Rattle.sb_crew.specs.Runs.{Event};
@@ -190,7 +188,7 @@ impl<T: Tape> Alone<T> {
         let clock = &mut desk.clock;
         let room = desk.room.as_slice();
         let block = job.block();
-        let sent = self.send(link, room, block, job.zeros());
+        let sent = self.names.send(link, room, block, job.zeros());
         let now = clock.now();
         self.end_store(now, room, job, sent);
         match sent {
@@ -214,26 +212,37 @@ impl<T: Tape> Alone<T> {
         self.core.put_end(now, PASS, job, sent.is_ok());
         self.note(now, Kind::PutEnd(block, sent.is_ok()));
     }
+}
+
+impl Names {
+    ghost use Rattle.std.specs.Prelude.{Some};
+    ghost use Rattle.sb_names.specs.declared.names.TheConstants.{MAX_PREFIX};
+    ghost use Rattle.sb_world.specs.Calls.{fault_of, HasFailed};
+    ghost use Rattle.sb_world.specs.Told.{Gains, CountsFaults};
+    ghost use Rattle.sb_history.specs.Contents.{is_zeros};
+    ghost use Rattle.sb_history.specs.Requests.{meta_of, put_call};
+    ghost use Rattle.sb_crew.specs.Names.{name_of};
 
     /// Asks the store to keep a block.
-    fn send<L: Link>(
+    pub(crate) fn send<L: Link>(
         &self,
         link: &mut L,
         content: &[u8],
         block: u32,
         zeros: bool,
     ) -> Result<(), LinkFault>
-        requires { zeros ≡ is_zeros content.now }
-        ensures told { Gains (L.log link.old) (L.log link.new) (put_call (name_of self.now.names block)
-            (meta_of (Some self.now.names.meta) block) content.now (fault_of result) ∷ []) }
+        requires prefix { length self.now.prefix ≤ MAX_PREFIX }
+        requires zeros { zeros ≡ is_zeros content.now }
+        ensures told { Gains (L.log link.old) (L.log link.new) (put_call (name_of self.now block)
+            (meta_of (Some self.now.meta) block) content.now (fault_of result) ∷ []) }
         ensures cause { CountsFaults (L.faults link.old) (L.faults link.new) (HasFailed result) }
     {
         let mut placed = [0; MAX_NAME];
-        let name = self.names.place(block, &mut placed);
+        let name = self.place(block, &mut placed);
         if zeros {
             link.delete(name)
         } else {
-            link.put(name, content, self.names.carried(block))
+            link.put(name, content, self.carried(block))
         }
     }
 }
