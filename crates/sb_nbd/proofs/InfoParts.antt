@@ -1,13 +1,13 @@
 -- How the parts of what INFO and GO carry join, and what is no such thing.
-use Rattle.std.proofs.Common.{ℕ, ◌≡◌, ◌≢◌, ◌<◌, ◌+◌, ◌-◌, ◌*◌, ◌^◌, ◌∙◌, nat_eq, Bool, true, false, if◌then◌else◌}
-use Rattle.std.proofs.Common.{List, [], ◌∷◌, ◌++◌, length, take, drop, ap, sym, subst, refl, arith, Ok, Err, append-nil}
+use Rattle.std.proofs.Common.{ℕ, ◌≡◌, ◌≢◌, ◌<◌, ◌+◌, ◌*◌, ◌^◌, ◌∙◌, nat_eq, Bool, true, false, if◌then◌else◌}
+use Rattle.std.proofs.Common.{List, [], ◌∷◌, ◌++◌, length, ap, sym, refl, arith, Err, append-nil}
 use Rattle.std.proofs.Common.{append_assoc}
 use Rattle.std.specs.Int.{w16, w32, to_be_bytes}
 use Rattle.std.specs.List.{AllByRecursion}
 use Rattle.std.proofs.lemmas.List.{length-append}
 use Rattle.sb_nbd.specs.declared.info.Details.{Details}
 use Rattle.sb_nbd.specs.declared.info.Details.TheVariants.{Export, ExportAndBlockSize}
-use Rattle.sb_nbd.specs.declared.info.OptionRefusal.TheVariants.{Invalid, Unknown}
+use Rattle.sb_nbd.specs.declared.info.OptionRefusal.TheVariants.{Invalid}
 use Rattle.sb_nbd.specs.Numbers.{block_size_kind}
 use Rattle.sb_nbd.specs.InfoRequests.{InfoRequest, IsInfoRequest, kinds_bytes, info_bytes, with_kind, details_of}
 use Rattle.sb_nbd.specs.InfoRequests.{ReadsKinds, ReadsInfo}

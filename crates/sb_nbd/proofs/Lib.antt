@@ -4,3 +4,4 @@ pub mod OptionParts
 pub mod OneForm
 pub mod Cuts
 pub mod InfoParts
+pub mod OneAnswer

@@ -9,3 +9,4 @@ pub mod InfoRequests
 pub mod OptionReplies
 pub mod OptionAnswers
 pub mod Replies
+pub mod Commands

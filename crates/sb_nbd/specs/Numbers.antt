@@ -87,9 +87,19 @@ disc_type = 2
 abbrev pub flush_type : ℕ
 flush_type = 3
 
+abbrev pub trim_type : ℕ
+trim_type = 4
+
+abbrev pub write_zeroes_type : ℕ
+write_zeroes_type = 6
+
 -- the flag of a request that wants its writes kept before the reply, FUA
 abbrev pub fua : ℕ
 fua = 1
+
+-- the flag of a WRITE_ZEROES that wants no hole where it writes, NO_HOLE
+abbrev pub no_hole : ℕ
+no_hole = 2
 
 -- the most bytes that a WRITE carries and a READ asks for, a limit of this server: 32 MiB
 abbrev pub max_payload : ℕ

@@ -6,7 +6,10 @@ ghost use Rattle.sb_nbd.specs.Numbers.{
   write_type,
   disc_type,
   flush_type,
+  trim_type,
+  write_zeroes_type,
   fua,
+  no_hole,
   eperm,
   eio,
   enomem,
@@ -19,16 +22,19 @@ ghost use Rattle.sb_nbd.specs.Requests.{Request, IsRequest, request_bytes};
 ghost use Rattle.sb_nbd.specs.RequestReading.{IsCutRequest};
 ghost use Rattle.sb_nbd.specs.Options.{Option, IsOption, option_bytes};
 ghost use Rattle.sb_nbd.specs.OptionReading.{IsCutOption};
+ghost use Rattle.sb_nbd.specs.declared.answer.OptionAnswer.{OptionAnswer};
+ghost use Rattle.sb_nbd.specs.OptionAnswers.{HasAnswer};
 
+use crate::command::{DISC, FLUSH, FUA, NO_HOLE, READ, TRIM, WRITE, WRITE_ZEROES};
 use crate::option::EXPORT_NAME;
 use crate::reply::{EINVAL, EIO, ENOMEM, ENOSPC, EPERM};
 use crate::request::MAX_PAYLOAD;
-use crate::wanted::{DISC, FLUSH, FUA, READ, WRITE};
 
 /// The constants that callers name are the numbers of the definitions.
 pub fn constants_are_numbers()
-    ensures types { (READ ≡ read_type) × (WRITE ≡ write_type) × (DISC ≡ disc_type) × (FLUSH ≡ flush_type) }
-    ensures flags { FUA ≡ fua }
+    ensures types { (READ ≡ read_type) × (WRITE ≡ write_type) × (DISC ≡ disc_type) × (FLUSH ≡ flush_type)
+        × (TRIM ≡ trim_type) × (WRITE_ZEROES ≡ write_zeroes_type) }
+    ensures flags { (FUA ≡ fua) × (NO_HOLE ≡ no_hole) }
     ensures errors { (EPERM ≡ eperm) × (EIO ≡ eio) × (ENOMEM ≡ enomem) × (EINVAL ≡ einval) × (ENOSPC ≡ enospc) }
     ensures option { EXPORT_NAME ≡ export_name }
     ensures payload { MAX_PAYLOAD ≡ max_payload }
@@ -54,4 +60,9 @@ pub fn one_option()
 /// A cut option is no whole option, and begins with none.
 pub fn no_cut_option()
     ensures { (o : Option) (x : List ℕ) → IsOption o → IsCutOption (option_bytes o ++ x) → ⊥ }
+{}
+
+/// An option has one answer.
+pub fn one_answer()
+    ensures { (o : Option) (a b : OptionAnswer) → HasAnswer o a → HasAnswer o b → a ≡ b }
 {}

@@ -10,9 +10,10 @@ ghost use Rattle.std.specs.Prelude.{◌≡◌, ◌≤◌, length, IsErrOf};
 ghost use Rattle.sb_world.specs.Told.{CountsFaults};
 ghost use Rattle.sb_nbd.specs.RequestReading.{ReadsMagic, ReadsFields, ReadsPayload, ReadsRequest};
 
+use crate::command::WRITE;
 use crate::end::NbdEnd;
 use crate::filling::take_part;
-use crate::wanted::{WRITE, Wanted, u32_of, wanted_of};
+use crate::wanted::{Wanted, u32_of, wanted_of};
 use sb_world::Source;
 
 /// What a request begins with.

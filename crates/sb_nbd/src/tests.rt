@@ -3,8 +3,8 @@
 ghost use Rattle.std.specs.Prelude.{None};
 
 use crate::{
-    Asked, Export, NbdEnd, Wanted, answer_to, read_flags, read_option, read_request, write_answer,
-    write_export, write_reply,
+    Asked, Command, Export, NbdEnd, Wanted, answer_to, has_fua, read_flags, read_option,
+    read_request, write_answer, write_export, write_reply,
 };
 use sb_world::{ReadFault, Sink, Source, WriteFault};
 use std::alloc::Global;
@@ -150,7 +150,7 @@ fn a_body_is_a_write_of_its_own_and_an_empty_one_is_none(rt: HostRuntime) -> Res
 const EXPORT: Export = Export {
     size: 65_536,
     block_size: 4096,
-    flags: 0x000d,
+    flags: 0x006d,
 };
 
 /// What an option that carries these bytes is answered, to a client that wants no zeros.
@@ -173,7 +173,7 @@ fn answered(alloc: Global, option: u32, payload: &[u8]) -> Result<Vec<u8>, Fail>
 #[test]
 fn options_have_the_answers_of_the_table(rt: HostRuntime) -> Result<(), Fail> {
     let rows: [(u32, &[u8], &[u8]); 8] = [
-        (1, b"", b"\x00\x00\x00\x00\x00\x01\x00\x00\x00\x0d"),
+        (1, b"", b"\x00\x00\x00\x00\x00\x01\x00\x00\x00\x6d"),
         (1, b"a", b""),
         (
             2,
@@ -193,7 +193,7 @@ fn options_have_the_answers_of_the_table(rt: HostRuntime) -> Result<(), Fail> {
         (
             7,
             b"\x00\x00\x00\x00\x00\x01\x00\x03",
-            b"\x00\x03\xe8\x89\x04\x55\x65\xa9\x00\x00\x00\x07\x00\x00\x00\x03\x00\x00\x00\x0c\x00\x00\x00\x00\x00\x00\x00\x01\x00\x00\x00\x0d\x00\x03\xe8\x89\x04\x55\x65\xa9\x00\x00\x00\x07\x00\x00\x00\x03\x00\x00\x00\x0e\x00\x03\x00\x00\x00\x01\x00\x00\x10\x00\x02\x00\x00\x00\x00\x03\xe8\x89\x04\x55\x65\xa9\x00\x00\x00\x07\x00\x00\x00\x01\x00\x00\x00\x00",
+            b"\x00\x03\xe8\x89\x04\x55\x65\xa9\x00\x00\x00\x07\x00\x00\x00\x03\x00\x00\x00\x0c\x00\x00\x00\x00\x00\x00\x00\x01\x00\x00\x00\x6d\x00\x03\xe8\x89\x04\x55\x65\xa9\x00\x00\x00\x07\x00\x00\x00\x03\x00\x00\x00\x0e\x00\x03\x00\x00\x00\x01\x00\x00\x10\x00\x02\x00\x00\x00\x00\x03\xe8\x89\x04\x55\x65\xa9\x00\x00\x00\x07\x00\x00\x00\x01\x00\x00\x00\x00",
         ),
         (
             7,
@@ -209,6 +209,42 @@ fn options_have_the_answers_of_the_table(rt: HostRuntime) -> Result<(), Fail> {
     for (option, payload, wanted) in rows {
         let bytes = answered(rt.alloc(), option, payload)?;
         assert!(rt; bytes.as_slice() == wanted);
+    }
+    Ok(())
+}
+
+/// A request of this type with these flags.
+fn wanted(kind: u16, flags: u16) -> Wanted {
+    Wanted {
+        flags,
+        kind,
+        cookie: 1,
+        offset: 0,
+        length: 4096,
+    }
+}
+
+#[test]
+fn types_have_the_commands_and_flags_of_the_table(rt: HostRuntime) -> Result<(), Fail> {
+    let rows: [(u16, Option<Command>, u16); 8] = [
+        (0, Some(Command::Read), 1),
+        (1, Some(Command::Write), 1),
+        (2, Some(Command::Disc), 1),
+        (3, Some(Command::Flush), 1),
+        (4, Some(Command::Trim), 1),
+        (5, None, 0),
+        (6, Some(Command::WriteZeroes), 3),
+        (7, None, 0),
+    ];
+    for (kind, command, flags) in rows {
+        assert!(rt; wanted(kind, 0).command() == command);
+        if let Some(command) = command {
+            assert!(rt; !command.has_other_flags(flags));
+            assert!(rt; command.has_other_flags(flags + 1));
+        }
+    }
+    for (flags, fua) in [(0, false), (1, true), (2, false), (3, true)] {
+        assert!(rt; has_fua(flags) == fua);
     }
     Ok(())
 }

@@ -12,21 +12,6 @@ ghost use Rattle.std.specs.Prelude.{◌≡◌, length};
 ghost use Rattle.std.specs.Int.{w16, w32, w64, to_be_bytes};
 ghost use Rattle.sb_nbd.specs.Requests.{fields_bytes, FitsFields};
 
-/// The type of a request for bytes.
-pub const READ: u16 = 0;
-
-/// The type of a request that carries bytes.
-pub const WRITE: u16 = 1;
-
-/// The type of the request that ends a session.
-pub const DISC: u16 = 2;
-
-/// The type of a request to have all writes kept.
-pub const FLUSH: u16 = 3;
-
-/// The flag of a request that wants its writes kept before the reply.
-pub const FUA: u16 = 1;
-
 /// What a request asks for: `length` bytes of the disk from `offset` on. Its reply has its cookie.
 #[derive(Drop, Clone, Copy, PartialEq, Eq, Debug)]
 pub struct Wanted {

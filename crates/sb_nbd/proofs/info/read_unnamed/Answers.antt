@@ -1,4 +1,4 @@
-use Rattle.std.proofs.Common.{rules, arith, ◌∙◌, ◌++◌, ℕ, List, length, take, drop, ap, subst, Err}
+use Rattle.std.proofs.Common.{rules, ◌∙◌, ◌++◌, ℕ, List, length, take, ap, subst, Err}
 use Rattle.std.specs.Int.{w32, to_be_bytes}
 use Rattle.std.proofs.lemmas.List.{take-append-drop}
 use Rattle.sb_nbd.specs.declared.info.OptionRefusal.TheVariants.{Invalid}

@@ -1,4 +1,4 @@
-use Rattle.std.proofs.Common.{Err, subst, length}
+use Rattle.std.proofs.Common.{Err, subst}
 use Rattle.sb_world.specs.Streams.{Holds, WriteHolds}
 use Rattle.sb_world.proofs.Streaming.{write_both, write_failed}
 use Rattle.sb_nbd.proofs.option_reply.write_option_reply.Goals as goal
