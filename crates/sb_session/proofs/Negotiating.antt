@@ -1,6 +1,6 @@
 -- Options, one after the other.
-use Rattle.std.proofs.Common.{ℕ, ◌≡◌, ◌<◌, ◌+◌, ◌∙◌, List, [], ◌∷◌, ◌++◌, Option, Result, Ok, Err, length, append_assoc}
-use Rattle.std.proofs.Common.{append-nil, ap, sym, subst, refl, inl, inr, arith}
+use Rattle.std.proofs.Common.{ℕ, ◌≡◌, ◌<◌, ◌+◌, List, [], ◌∷◌, Option, Result, Ok, Err}
+use Rattle.std.proofs.Common.{append-nil, sym, subst, refl, inl, inr, arith}
 use Rattle.sb_world.specs.Streams.{Takes, Holds, WriteHolds}
 use Rattle.sb_nbd.specs.declared.end.NbdEnd.{NbdEnd}
 use Rattle.sb_nbd.specs.declared.end.NbdEnd.TheVariants as nbd
@@ -11,7 +11,7 @@ use Rattle.sb_nbd.specs.Options as options
 use Rattle.sb_nbd.specs.OptionReading.{StopsOption, option_in}
 use Rattle.sb_nbd.specs.OptionAnswers.{HasAnswer, answer_bytes}
 use Rattle.sb_world.proofs.Streaming.{holds_nothing}
-use Rattle.sb_session.specs.Streams.{Streams, Moves, streams_at}
+use Rattle.sb_session.specs.Streams.{Streams, streams_at}
 use Rattle.sb_session.specs.declared.haggling.Next.{Next}
 use Rattle.sb_session.specs.declared.haggling.Next.TheVariants as next
 use Rattle.sb_session.specs.declared.end.SessionEnd.{SessionEnd}

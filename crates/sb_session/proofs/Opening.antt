@@ -1,6 +1,6 @@
 -- A handshake, and the session behind it.
-use Rattle.std.proofs.Common.{ℕ, ◌≡◌, ◌≤◌, ◌∙◌, Bool, List, [], ◌∷◌, ◌++◌, Option, Result, Ok, Err, append_assoc, ap, sym}
-use Rattle.std.proofs.Common.{subst, refl, inl, inr, arith}
+use Rattle.std.proofs.Common.{ℕ, ◌≤◌, Bool, List, [], Option, Result, Ok, Err}
+use Rattle.std.proofs.Common.{refl, inl, inr, arith}
 use Rattle.std.specs.Int.{w32, to_be_bytes}
 use Rattle.sb_world.specs.Streams.{Takes, Holds, WriteHolds}
 use Rattle.sb_nbd.specs.declared.end.NbdEnd.{NbdEnd}

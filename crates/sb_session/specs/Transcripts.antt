@@ -6,7 +6,7 @@ use Rattle.sb_nbd.specs.Replies.{reply_bytes}
 use Rattle.sb_crew.specs.Bases.{Base}
 use Rattle.sb_crew.specs.Scenes.{Deed, nothing, followed}
 use Rattle.sb_crew.specs.Outcomes.{AsksOnly}
-use Rattle.sb_session.specs.Goals.{is_disc, refusal}
+use Rattle.sb_session.specs.Goals.{is_disc, verdict}
 use Rattle.sb_session.specs.Answers.{AnswersBy, parts_asked}
 
 -- a request, what was done for it, and the error and the bytes of its reply
@@ -20,8 +20,8 @@ pub record Exchange : Type 0 where
 pub record IsAnswered (read_only : Bool) (base : Base) (x : Exchange) : Type 0 where
   pub request : IsRequest x.request
   pub goes_on : is_disc x.request.wanted ≡ false
-  pub answer : AnswersBy (refusal read_only base.geometry x.request.wanted) base x.request x.error x.body x.deed
-  pub asks : AsksOnly (parts_asked (refusal read_only base.geometry x.request.wanted) base.geometry x.request) x.deed.entries
+  pub answer : AnswersBy (verdict read_only base.geometry x.request.wanted) base x.request x.error x.body x.deed
+  pub asks : AsksOnly (parts_asked (verdict read_only base.geometry x.request.wanted) base.geometry x.request) x.deed.entries
 
 -- the exchanges of a session
 abbrev pub IsTranscript : Bool → Base → List Exchange → Type 0

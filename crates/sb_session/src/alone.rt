@@ -18,7 +18,7 @@ use sb_nbd::NbdEnd;
 use sb_world::{Clock, Link, Sink, Source, Tape};
 
 /// Serves one client over a disk on one thread, until its session ends. It always returns. Where the disk is read-only
-/// each WRITE is refused, with EPERM.
+/// each request that writes is refused, with EPERM.
 pub fn serve_alone<T: Tape, L: Link, C: Clock, R: Source, S: Sink>(
     disk: &mut Alone<T>,
     desk: &mut Desk<L, C>,

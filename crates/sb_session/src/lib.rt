@@ -2,8 +2,8 @@
 //! disk.
 //!
 //! `serve` answers options until one begins the transmission. Then it reads one request after the other, does what it
-//! asks for part by part, and writes its reply: READ, WRITE, with FUA or without, and FLUSH, until DISC. Other requests
-//! get an error, and bytes that are no message end the session.
+//! asks for part by part, and writes its reply: READ, WRITE, TRIM and WRITE_ZEROES, with FUA or without, and FLUSH, until
+//! DISC. Other requests get an error, and bytes that are no message end the session.
 #![tactic(auto)]
 
 mod alone;
@@ -15,6 +15,7 @@ mod laws;
 mod range;
 mod serving;
 mod transmission;
+mod zeroing;
 
 pub use alone::serve_alone;
 pub use buffer::Buffer;
@@ -24,4 +25,12 @@ pub use laws::one_input;
 pub use serving::serve;
 
 #[cfg(test)]
+mod fakes;
+#[cfg(test)]
+mod messages;
+#[cfg(test)]
+mod table_tests;
+#[cfg(test)]
 mod tests;
+#[cfg(test)]
+mod zero_tests;

@@ -3,11 +3,12 @@
 ghost use Rattle.std.specs.Prelude.{◌≡◌, ◌≤◌, ◌+◌, length};
 ghost use Rattle.sb_base.specs.Shapes.{IsSound};
 ghost use Rattle.sb_base.specs.Ranges.{IsRange, parts_of};
+ghost use Rattle.sb_session.specs.Goals.{writes_of};
 ghost use Rattle.sb_session.specs.Answers.{ReadsRange, WritesRange, WritesWanted, FlushesWanted};
 
 use sb_base::parts;
 use sb_crew::{CallFault, Calls};
-use sb_nbd::FUA;
+use sb_nbd::has_fua;
 
 /// Reads a range into the front of a buffer.
 pub(crate) fn read_range<K, D: Calls<K>>(
@@ -51,8 +52,8 @@ pub(crate) fn write_wanted<K, D: Calls<K>>(
     requires sound { IsSound (D.base disk.old).geometry }
     requires range { IsRange (D.base disk.old).geometry offset (offset + length payload.now) }
     ensures ready { D.ready disk.new desk.new }
-    ensures told { WritesWanted (D.base disk.old) (D.did disk.old desk.old disk.new desk.new)
-        (parts_of (D.base disk.old).geometry.block_size offset (offset + length payload.now)) flags payload.now result }
+    ensures told { let parts = parts_of (D.base disk.old).geometry.block_size offset (offset + length payload.now) in
+        WritesWanted (D.base disk.old) (D.did disk.old desk.old disk.new desk.new) parts flags (writes_of parts payload.now) result }
     ensures base { D.base disk.new ≡ D.base disk.old }
 {
     match write_range(disk, desk, offset, payload) {
@@ -62,13 +63,17 @@ pub(crate) fn write_wanted<K, D: Calls<K>>(
 }
 
 /// Flushes where FUA is among the flags.
-fn flush_wanted<K, D: Calls<K>>(disk: &mut D, desk: &mut K, flags: u16) -> Result<(), CallFault>
+pub(crate) fn flush_wanted<K, D: Calls<K>>(
+    disk: &mut D,
+    desk: &mut K,
+    flags: u16,
+) -> Result<(), CallFault>
     requires { D.ready disk.old desk.old }
     ensures ready { D.ready disk.new desk.new }
     ensures told { FlushesWanted (D.base disk.old) (D.did disk.old desk.old disk.new desk.new) flags result }
     ensures base { D.base disk.new ≡ D.base disk.old }
 {
-    if flags == FUA {
+    if has_fua(flags) {
         match disk.flush(desk) {
             Ok(()) => Ok(()),
             Err(fault) => Err(CallFault::from(fault)),
@@ -89,8 +94,8 @@ fn write_range<K, D: Calls<K>>(
     requires sound { IsSound (D.base disk.old).geometry }
     requires range { IsRange (D.base disk.old).geometry offset (offset + length payload.now) }
     ensures ready { D.ready disk.new desk.new }
-    ensures told { WritesRange (D.base disk.old) (D.did disk.old desk.old disk.new desk.new)
-        (parts_of (D.base disk.old).geometry.block_size offset (offset + length payload.now)) payload.now result }
+    ensures told { let parts = parts_of (D.base disk.old).geometry.block_size offset (offset + length payload.now) in
+        WritesRange (D.base disk.old) (D.did disk.old desk.old disk.new desk.new) parts (writes_of parts payload.now) result }
     ensures base { D.base disk.new ≡ D.base disk.old }
 {
     let geometry = disk.geometry();

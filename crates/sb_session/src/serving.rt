@@ -16,8 +16,8 @@ use sb_crew::Calls;
 use sb_nbd::{Export, MAX_PAYLOAD, NbdEnd, read_flags, write_greeting};
 use sb_world::{Sink, Source};
 
-/// Serves one client until its session ends. Where the disk is `read_only` the client is told so, and each WRITE is
-/// refused; the buffer has room for the bytes of one request.
+/// Serves one client until its session ends. Where the disk is `read_only` the client is told so, and each request
+/// that writes is refused; the buffer has room for the bytes of one request.
 pub fn serve<K, D: Calls<K>, R: Source, S: Sink>(
     disk: &mut D,
     desk: &mut K,
@@ -55,12 +55,12 @@ fn export_of(geometry: Geometry, read_only: bool) -> Export
     }
 }
 
-/// The flags of a disk: it has flags (bit 0), can be flushed (bit 2) and takes FUA (bit 3), and maybe is read-only
-/// (bit 1).
+/// The flags of a disk: it has flags (bit 0), can be flushed (bit 2), takes FUA (bit 3), TRIM (bit 5) and WRITE_ZEROES
+/// (bit 6), and maybe is read-only (bit 1).
 fn transmission_flags(read_only: bool) -> u16
     ensures { result ≡ transmission_flags read_only }
 {
-    if read_only { 0x000f } else { 0x000d }
+    if read_only { 0x006f } else { 0x006d }
 }
 
 /// Writes the greeting, reads the client's flags, and answers options, up to the one that begins the transmission. It

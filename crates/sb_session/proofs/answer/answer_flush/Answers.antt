@@ -1,6 +1,6 @@
 use Rattle.std.proofs.Common.{◌∙◌, ap}
 use Rattle.sb_session.specs.Answers.{error_of}
-use Rattle.sb_session.proofs.Reading.{flush_answers, flush_fails}
+use Rattle.sb_session.proofs.Writing.{flush_answers, flush_fails}
 use Rattle.sb_session.proofs.answer.answer_flush.Goals as goal
 
 pub returns-in-Ok-clause-told : goal.returns-in-Ok-clause-told

@@ -42,7 +42,7 @@ loop-part-preserved g c =
       told = reads_more (g.D.Calls.base c.args.disk.now) _ _ _
           (g.D.Calls.did_both c.args.disk.now c.args.desk.now c.loop-part.disk
           c.loop-part.desk c.read.new.self c.read.new.desk) yielded part c.loop-part.at _ c.loop-part.room
-          c.read.new.out len within before.told more.did;
+          c.read.new.out len within before.told (rw before.base at more.did);
       split = append_assoc yielded (part ∷ []) c.next.new.self ∙ split;
       at = length_more yielded part c.loop-part.at before.at;
       base = more.base ∙ before.base;

@@ -2,7 +2,9 @@ use Rattle.std.proofs.Common.{refl, sym, subst, ap, ◌∙◌, ◌+◌, ◌++◌
 use Rattle.sb_base.specs.declared.geometry.Geometry.{Geometry}
 use Rattle.sb_base.specs.Ranges.{parts_of}
 use Rattle.sb_session.specs.Answers.{WritesRange}
-use Rattle.sb_session.proofs.Reading.{writes_none, writes_more, writes_stop, length_more}
+use Rattle.sb_session.specs.Goals.{writes_of}
+use Rattle.sb_session.proofs.Reading.{length_more}
+use Rattle.sb_session.proofs.Writing.{writes_none, writes_more, writes_stop}
 use Rattle.sb_session.proofs.range.write_range.Goals as goal
 
 pub loop-part-init : goal.loop-part-init
@@ -47,5 +49,5 @@ returns-in-Err-clause-told g c =
     c.loop-part.desk c.write.new.self c.write.new.desk)
     yielded c.next.new.self c.in-Some.part c.loop-part.at c.args.payload.now c.in-Err.fault before.at before.told
     (rw before.base at c.in-Err.ensures.did) in
-    subst (λ parts. WritesRange (g.D.Calls.base c.args.disk.now) did parts c.args.payload.now (Err c.in-Err.fault))
+    subst (λ parts. WritesRange (g.D.Calls.base c.args.disk.now) did parts (writes_of parts c.args.payload.now) (Err c.in-Err.fault))
     split stops

@@ -1,4 +1,4 @@
-use Rattle.std.proofs.Common.{refl, ap, [], ◌∷◌, None, false, arith}
+use Rattle.std.proofs.Common.{refl, true, ap, [], ◌∷◌, None, false, arith}
 use Rattle.sb_base.specs.declared.entry.EntryKind.TheVariants as kind
 use Rattle.sb_base.specs.declared.entry.Shown.TheVariants as shown
 use Rattle.sb_world.specs.declared.link.Call.TheVariants as call
@@ -8,7 +8,7 @@ use Rattle.sb_crew.specs.Answers.{call_fault}
 use Rattle.sb_crew.specs.Scenes.{deed_of}
 use Rattle.sb_crew.specs.Outcomes.{flush_of}
 use Rattle.sb_crew.proofs.Requesting.{fails_by, reaches_by}
-use Rattle.sb_session.proofs.tests.BytesCallsUnit.flush.Goals as goal
+use Rattle.sb_session.proofs.fakes.BytesCallsUnit.flush.Goals as goal
 
 pub returns-in-None-clause-did : goal.returns-in-None-clause-did
 returns-in-None-clause-did c = record {
@@ -21,7 +21,7 @@ returns-in-None-clause-did c = record {
 
 pub returns-in-Some-clause-did : goal.returns-in-Some-clause-did
 returns-in-Some-clause-did c =
-    let base : Base = record { geometry = c.args.self.now.geometry; settings = c.args.self.now.settings } in
+    let base : Base = record { geometry = c.args.self.now.geometry; settings = c.args.self.now.settings; alone = true } in
     let failed = ap call_fault c.fault_for.ensures in
     record {
       deed = deed_of (record { pass = 1; reading = 0; kind = kind.GetEnd 0 shown.Failed None false } ∷ [])
