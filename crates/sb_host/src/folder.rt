@@ -36,11 +36,11 @@ struct Place {
 #[derive(Drop)]
 pub struct HostFolder {
     rt: HostRuntime,
-    /// The path of the directory with a slash behind it.
+    /// The path of the directory with a slash behind it, and nothing where there is none.
     root: String,
-    directory: HostFile,
+    directory: Option<HostFile>,
     /// The directory that was opened.
-    place: Place,
+    place: Option<Place>,
     /// Whether a name has changed since the directory was synced.
     unsynced: bool,
     /// The paths of the files in work.
@@ -63,13 +63,27 @@ impl HostFolder {
         Ok(HostFolder {
             rt,
             root,
-            directory,
-            place: place_of(&metadata),
+            directory: Some(directory),
+            place: Some(place_of(&metadata)),
             unsynced: false,
             path: String::new(rt.alloc()),
             other: String::new(rt.alloc()),
             faults: 0,
         })
+    }
+
+    /// A folder of no directory: each call fails. It takes no memory.
+    pub fn nowhere(rt: HostRuntime) -> HostFolder {
+        HostFolder {
+            rt,
+            root: String::new(rt.alloc()),
+            directory: None,
+            place: None,
+            unsynced: false,
+            path: String::new(rt.alloc()),
+            other: String::new(rt.alloc()),
+            faults: 0,
+        }
     }
 
     /// Reads a file of the length of `out`.
@@ -141,7 +155,9 @@ impl HostFolder {
         ensures { self.new.faults ≡ self.old.faults }
     {
         if self.unsynced {
-            self.directory.sync_all()?;
+            if let Some(directory) = &self.directory {
+                directory.sync_all()?;
+            }
             self.unsynced = false;
         }
         Ok(())
@@ -163,7 +179,7 @@ impl HostFolder {
 
     /// Fails where the path names another directory than the one that was opened, or none.
     fn check_place(&self) -> io::Result<()> {
-        if place_of(&fs::metadata(&self.rt, &self.root)?) == self.place {
+        if Some(place_of(&fs::metadata(&self.rt, &self.root)?)) == self.place {
             Ok(())
         } else {
             Err(io::Error::from(io::ErrorKind::StaleNetworkFileHandle))
@@ -246,6 +262,9 @@ fn make_directory(rt: &HostRuntime, path: Path<'_>) -> io::Result<()> {
 
 /// Makes a path of the directory's and a file's name.
 fn set_path(path: &mut String, root: &str, name: &[u8]) -> io::Result<()> {
+    if root.is_empty() {
+        return Err(io::Error::from(io::ErrorKind::NotADirectory));
+    }
     let name = match str::from_utf8(name) {
         Ok(name) => name,
         Err(_) => return Err(io::Error::from(io::ErrorKind::InvalidFilename)),

@@ -1,10 +1,13 @@
-//! A directory of the file system, and the clocks of a process.
+//! A directory of the file system, connections over TCP, and the clocks of a process.
 
 use crate::clock::moment_of;
 use crate::folder::HostFolder;
+use crate::wire::TcpWire;
 use crate::world::HostWorld;
-use sb_world::{Clock, FileGot, Folder, Page, World};
+use sb_world::{Clock, FileGot, Folder, Page, Wire, WireFault, World};
 use std::fs;
+use std::io::{Read, Write};
+use std::net::TcpListener;
 use std::test::Fail;
 
 #[test]
@@ -29,6 +32,33 @@ fn a_directory_of_the_file_system_keeps_files(rt: HostRuntime) -> Result<(), Fai
     assert!(rt; folder.remove(b"a") == Ok(false));
     fs::remove_dir(&rt, path)?;
     fs::remove_dir(&rt, "folder-of-a-test")?;
+    Ok(())
+}
+
+#[test]
+fn a_wire_carries_bytes_each_way_over_connections_of_their_own(
+    rt: HostRuntime,
+) -> Result<(), Fail> {
+    let listener = TcpListener::bind(&rt, "127.0.0.1:0")?;
+    let port = listener.local_addr()?.port();
+    let mut wire = TcpWire::new(rt, String::from_str(rt.alloc(), "127.0.0.1")?, port);
+    assert!(rt; wire.send(b"early") == Err(WireFault::Failed));
+    let mut heard = [0; 4];
+    let mut got = [0; 8];
+    for said in [b"pong", b"ding"] {
+        assert!(rt; wire.connect().is_ok());
+        let (mut peer, _) = listener.accept()?;
+        peer.write_all(said)?;
+        assert!(rt; wire.send(b"pi").is_ok() && wire.send(b"ng").is_ok());
+        assert!(rt; wire.receive(&mut got) == Ok(4));
+        assert!(rt; &got[..4] == said.as_slice());
+        peer.read_exact(&mut heard)?;
+        assert_eq!(rt; heard, *b"ping");
+        drop(peer);
+        assert!(rt; wire.receive(&mut got) == Ok(0));
+    }
+    drop(listener);
+    assert!(rt; wire.connect() == Err(WireFault::Failed));
     Ok(())
 }
 
