@@ -1,0 +1,5 @@
+pub mod Finding
+pub mod Gaining
+pub mod Taking
+pub mod Numbers
+pub mod Answering
