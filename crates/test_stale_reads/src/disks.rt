@@ -12,6 +12,7 @@ use sb_core::Core;
 use sb_crew::{Alone, CallFault, Calls, Desk, Names};
 use sb_fakes::Object;
 use sb_world::{Clock, Link, Meta, Tape};
+use sb_zero::Zeros;
 use std::alloc::{AllocError, Global};
 
 /// How many bytes a block has.
@@ -36,7 +37,8 @@ pub fn disk_with<T: Tape + Drop>(
     ensures shape { IfOk result (λ disk. geometry_of (core_of disk) ≡ GEOMETRY) }
     ensures ready { IfOk result (λ disk. IsReady disk.core disk.reading 512) }
 {
-    let core = Core::new(alloc, GEOMETRY, settings)?;
+    let zeros = Zeros::new(alloc, 4)?;
+    let core = Core::new(alloc, GEOMETRY, settings, zeros)?;
     let names = Names {
         prefix: String::new(alloc),
         hashed: false,

@@ -170,6 +170,27 @@ impl<'a> Player<'a> {
         Ok(())
     }
 
+    /// Writes zeros to a part.
+    fn zero(
+        &mut self,
+        alloc: Global,
+        disk: &mut Alone<SharedTape<'a>>,
+        desk: &mut Desk<TimedStore, HandClock>,
+    ) -> Result<(), AllocError>
+        requires ready { IsReadyWith disk.old desk.old }
+        requires shape { geometry_of (core_of disk.old) ≡ GEOMETRY }
+        ensures ready { IsReadyWith disk.new desk.new }
+        ensures shape { geometry_of (core_of disk.new) ≡ GEOMETRY }
+    {
+        let part = self.draws.part();
+        self.choose(alloc, &mut desk.link, &mut desk.clock, part.block)?;
+        match disk.zero(desk, part) {
+            Ok(()) => self.image.set(part, &[0; 512][..part.length as usize]),
+            Err(fault) => self.counts.add(fault),
+        }
+        Ok(())
+    }
+
     /// Reads a part.
     fn read(
         &mut self,
@@ -227,9 +248,10 @@ impl<'a> Player<'a> {
         ensures ready { IsReadyWith disk.new desk.new }
         ensures shape { geometry_of (core_of disk.new) ≡ GEOMETRY }
     {
-        match self.draws.below(8) {
+        match self.draws.below(9) {
             0 | 1 | 2 => self.write(alloc, disk, desk),
-            3 | 4 | 5 => self.read(alloc, disk, desk),
+            3 => self.zero(alloc, disk, desk),
+            4 | 5 | 6 => self.read(alloc, disk, desk),
             _ => {
                 self.flush(disk, desk);
                 Ok(())

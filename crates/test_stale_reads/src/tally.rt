@@ -88,7 +88,7 @@ pub fn fail_as_planned(entries: &[Entry], planned: &[u64]) -> bool {
     true
 }
 
-/// How many blocks are dirty, on a disk of four blocks with no request open: they were written after their last put that
+/// How many blocks may be dirty, on a disk of four blocks with no request open: they were written after their last put that
 /// ended ok.
 pub fn dirty_blocks(entries: &[Entry]) -> usize {
     let mut dirty = [false; 4];

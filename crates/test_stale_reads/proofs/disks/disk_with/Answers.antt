@@ -2,7 +2,7 @@ use Rattle.std.proofs.Common.{arith, refl}
 use Rattle.test_stale_reads.proofs.disks.disk_with.Goals as goal
 
 -- the disk's geometry is one that a disk can have
-pub new-requires-clause-sound : goal.new-requires-clause-sound
+pub new-requires-2-clause-sound : goal.new-requires-2-clause-sound
 unfolding lib.Count.ones
-new-requires-clause-sound g c =
+new-requires-2-clause-sound g c =
     record { block_size = (omega arith, omega arith); power = refl; blocks = (omega arith, omega arith) }
