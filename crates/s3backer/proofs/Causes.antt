@@ -1,5 +1,5 @@
 -- What a run can't end with where no count of faults rose.
-use Rattle.std.proofs.Common.{ℕ, ◌≡◌, ◌≢◌, ◌+◌, ◌-◌, ◌^◌, ◌≤◌, ◌⊎◌, suc, zero, nat_eq, nat_lt, Bool, true, false}
+use Rattle.std.proofs.Common.{ℕ, ◌≡◌, ◌≢◌, ◌+◌, ◌-◌, ◌^◌, ◌≤◌, ◌⊎◌, suc, zero, nat_lt, Bool, true, false}
 use Rattle.std.proofs.Common.{if◌then◌else◌, List, [], ◌∷◌, ◌++◌, Option, Some, None, Result, Ok, Err, refl, sym, ◌∙◌}
 use Rattle.std.proofs.Common.{ap, subst, inl, inr, arith}
 use Rattle.std.specs.List.{AllByRecursion}
@@ -11,7 +11,7 @@ use Rattle.sb_world.specs.declared.link.Call.{Call}
 use Rattle.sb_world.specs.declared.link.LinkFault.{LinkFault}
 use Rattle.sb_world.specs.declared.link.LinkFault.TheVariants as link
 use Rattle.sb_nbd.specs.declared.wanted.Wanted.{Wanted}
-use Rattle.sb_nbd.specs.Numbers.{einval, eio, enomem, enospc, eperm, flush_type, fua, max_payload, read_type, write_type}
+use Rattle.sb_nbd.specs.Numbers.{einval, eio, enomem, enospc, eperm, max_payload}
 use Rattle.sb_nbd.specs.Requests.{Request}
 use Rattle.sb_crew.specs.Bases.{Base}
 use Rattle.sb_crew.specs.declared.calls.CallFault.{CallFault}
@@ -25,7 +25,10 @@ use Rattle.sb_crew.specs.Joins.{failures_join}
 use Rattle.sb_nbd.specs.declared.end.NbdEnd.TheVariants as nbd
 use Rattle.sb_session.specs.declared.end.SessionEnd.{SessionEnd}
 use Rattle.sb_session.specs.declared.end.SessionEnd.TheVariants as end
-use Rattle.sb_session.specs.Goals.{refusal, passes_end, goal_of, body_of}
+use Rattle.sb_session.specs.Goals.{passes_end, write_verdict, verdict_of, verdict_as, verdict, goal_of, body_of}
+use Rattle.sb_nbd.specs.Commands.{command_of, has_other_flags}
+use Rattle.sb_nbd.specs.declared.command.Command.{Command}
+use Rattle.sb_nbd.specs.declared.command.Command.TheVariants as command
 use Rattle.sb_session.specs.Answers.{AnswersBy, IsReplyTo, error_of}
 use Rattle.sb_session.specs.Streams.{Streams}
 use Rattle.sb_session.specs.Transcripts.{Exchange, IsTranscript, deed_in}
@@ -67,39 +70,56 @@ pub cause_fails : (base : Base) (status : ℕ) (deed : Deed) → HasCause base (
 cause_fails base status deed cause none = call_fails status deed.entries deed.calls cause none
 
 -- no request is refused by the error of a store that failed
-abbrev IsOtherCode : Option ℕ → Type 0
-IsOtherCode None = Unit {0}
-IsOtherCode (Some code) = code ≢ eio
+abbrev IsOtherCode : Result Command ℕ → Type 0
+IsOtherCode (Ok command) = Unit {0}
+IsOtherCode (Err code) = code ≢ eio
 
-record IsOther (refused : Option ℕ) : Type 0 where
-  code : IsOtherCode refused
+record IsOther (judged : Result Command ℕ) : Type 0 where
+  code : IsOtherCode judged
 
-either_other : (t : Bool) (x y : Option ℕ) → IsOther x → IsOther y → IsOther (if t then x else y)
+either_other : (t : Bool) (x y : Result Command ℕ) → IsOther x → IsOther y → IsOther (if t then x else y)
 either_other true x y first second = first
 either_other false x y first second = second
 
-invalid_is_other : IsOther (Some einval)
+invalid_is_other : IsOther (Err einval)
 invalid_is_other = record { code = λ is. absurd (omega (arith, is)) }
 
-no_permission_is_other : IsOther (Some eperm)
+no_permission_is_other : IsOther (Err eperm)
 no_permission_is_other = record { code = λ is. absurd (omega (arith, is)) }
 
-no_space_is_other : IsOther (Some enospc)
+no_space_is_other : IsOther (Err enospc)
 no_space_is_other = record { code = λ is. absurd (omega (arith, is)) }
 
-served_is_other : IsOther None
-served_is_other = record { code = tt }
+served_is_other : (command : Command) → IsOther (Ok command)
+served_is_other command = record { code = tt }
 
-refused_otherwise : (read_only : Bool) (geometry : Geometry) (w : Wanted) → IsOther (refusal read_only geometry w)
-refused_otherwise read_only geometry w =
-    either_other (nat_lt flush_type w.kind) _ _ invalid_is_other
-    (either_other (nat_lt fua w.flags) _ _ invalid_is_other
-    (either_other (nat_eq w.kind read_type) _ _
-    (either_other (nat_lt max_payload w.length) _ _ invalid_is_other
-    (either_other (passes_end geometry w) _ _ invalid_is_other served_is_other))
-    (either_other (nat_eq w.kind write_type) _ _
-    (either_other read_only _ _ no_permission_is_other
-    (either_other (passes_end geometry w) _ _ no_space_is_other served_is_other)) served_is_other)))
+write_otherwise : (read_only : Bool) (geometry : Geometry) (w : Wanted) (command : Command) (error : ℕ)
+    → IsOther (Err error) → IsOther (write_verdict read_only geometry w command error)
+write_otherwise read_only geometry w command error other =
+    either_other read_only _ _ no_permission_is_other
+    (either_other (passes_end geometry w) _ _ other (served_is_other command))
+
+command_otherwise : (read_only : Bool) (geometry : Geometry) (w : Wanted) (asked : Command)
+    → IsOther (verdict_of read_only geometry w asked)
+command_otherwise read_only geometry w command.Read =
+    either_other (nat_lt max_payload w.length) _ _ invalid_is_other
+    (either_other (passes_end geometry w) _ _ invalid_is_other (served_is_other command.Read))
+command_otherwise read_only geometry w command.Write =
+    write_otherwise read_only geometry w command.Write enospc no_space_is_other
+command_otherwise read_only geometry w command.Trim = write_otherwise read_only geometry w command.Trim einval invalid_is_other
+command_otherwise read_only geometry w command.WriteZeroes =
+    write_otherwise read_only geometry w command.WriteZeroes enospc no_space_is_other
+command_otherwise read_only geometry w command.Flush = served_is_other command.Flush
+command_otherwise read_only geometry w command.Disc = served_is_other command.Disc
+
+refused_as : (read_only : Bool) (geometry : Geometry) (w : Wanted) (command : Option Command)
+    → IsOther (verdict_as read_only geometry w command)
+refused_as read_only geometry w None = invalid_is_other
+refused_as read_only geometry w (Some command) =
+    either_other (has_other_flags command w.flags) _ _ invalid_is_other (command_otherwise read_only geometry w command)
+
+refused_otherwise : (read_only : Bool) (geometry : Geometry) (w : Wanted) → IsOther (verdict read_only geometry w)
+refused_otherwise read_only geometry w = refused_as read_only geometry w (command_of w.kind)
 
 -- the reply to a request none of whose calls failed
 memory_is_other : enomem ≢ eio
@@ -129,13 +149,13 @@ answer_otherwise base goal bytes deed error body (Ok done) none ends reply =
 answer_otherwise base goal bytes deed error body (Err fault) none ends reply =
     number_otherwise base goal deed fault error ends reply.0 none
 
-reply_otherwise : (refused : Option ℕ) → IsOther refused → (base : Base) (r : Request) (error : ℕ) (body : List ℕ)
-    (deed : Deed) → failures deed.calls ≡ 0 → AnswersBy refused base r error body deed
+reply_otherwise : (judged : Result Command ℕ) → IsOther judged → (base : Base) (r : Request) (error : ℕ) (body : List ℕ)
+    (deed : Deed) → failures deed.calls ≡ 0 → AnswersBy judged base r error body deed
     → (error ≢ eio) ⊎ FailsByTime base deed
-reply_otherwise (Some code) other base r error body deed none answer =
+reply_otherwise (Err code) other base r error body deed none answer =
     inl (subst (λ (n : ℕ). n ≢ eio) (sym answer.number) other.code)
-reply_otherwise None other base r error body deed none answer =
-    answer_otherwise base (goal_of base.geometry r answer.0) (body_of r.wanted deed.entries) deed error body
+reply_otherwise (Ok command) other base r error body deed none answer =
+    answer_otherwise base (goal_of base.geometry r answer.0 command) (body_of command deed.entries) deed error body
     answer.1.result none answer.1.ends answer.1.reply
 
 replies_otherwise : (read_only : Bool) (base : Base) (xs : List Exchange) → failures (deed_in xs).calls ≡ 0
@@ -145,7 +165,7 @@ replies_otherwise read_only base [] none answered = tt
 replies_otherwise read_only base (x ∷ xs) none answered =
     let parts = sum_nothing (failures x.deed.calls) (failures (deed_in xs).calls)
     (sym (failures_join x.deed.calls (deed_in xs).calls) ∙ none) in (
-      reply_otherwise (refusal read_only base.geometry x.request.wanted)
+      reply_otherwise (verdict read_only base.geometry x.request.wanted)
           (refused_otherwise read_only base.geometry x.request.wanted) base x.request
           x.error x.body x.deed parts.0 answered.0.answer,
       replies_otherwise read_only base xs parts.1 answered.1,

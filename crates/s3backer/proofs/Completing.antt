@@ -38,7 +38,8 @@ use Rattle.sb_nbd.specs.declared.end.NbdEnd.TheVariants as nbd
 use Rattle.sb_session.specs.declared.end.SessionEnd.{SessionEnd}
 use Rattle.sb_session.specs.declared.end.SessionEnd.TheVariants as end
 use Rattle.sb_session.specs.Streams.{Streams}
-use Rattle.sb_session.specs.Goals.{refusal, goal_of, body_of}
+use Rattle.sb_session.specs.Goals.{verdict, goal_of, body_of}
+use Rattle.sb_nbd.specs.declared.command.Command.{Command}
 use Rattle.sb_session.specs.Answers.{AnswersBy, IsReplyTo, error_of}
 use Rattle.sb_session.specs.Transcripts.{Exchange, IsTranscript, deed_in}
 use Rattle.sb_session.specs.Sessions.{Course}
@@ -178,14 +179,15 @@ module _ (read_only : Bool) (base : Base) (start : Start) (delays : Delays) (law
   either_served x (inl done) = inl done
   either_served x (inr lacking) = inr (inl lacking)
 
-  reply_served : (x : Exchange) (older : Deed) (refused : Option ℕ) → refusal read_only base.geometry x.request.wanted ≡ refused
+  reply_served : (x : Exchange) (older : Deed) (judged : Result Command ℕ)
+      → verdict read_only base.geometry x.request.wanted ≡ judged
       → IsSoundHistory base.geometry base.settings nothing_found start delays (x.deed.entries ++ older.entries)
       → ClockMoves (x.deed.ticks ++ older.ticks) → failures x.deed.calls ≡ 0
-      → AnswersBy refused base x.request x.error x.body x.deed → IsServed read_only base x
-  reply_served x older (Some code) is sound moves none answer = inr (inr (is ∙ ap (λ n. Some n) (sym answer.number)))
-  reply_served x older None is sound moves none answer =
-      either_served x (answer_served (goal_of base.geometry x.request answer.0)
-      (body_of x.request.wanted x.deed.entries) x.deed older x.error x.body answer.1.result sound moves none
+      → AnswersBy judged base x.request x.error x.body x.deed → IsServed read_only base x
+  reply_served x older (Err code) is sound moves none answer = inr (inr (is ∙ ap (λ n. Err n) (sym answer.number)))
+  reply_served x older (Ok command) is sound moves none answer =
+      either_served x (answer_served (goal_of base.geometry x.request answer.0 command)
+      (body_of command x.deed.entries) x.deed older x.error x.body answer.1.result sound moves none
       answer.1.ends answer.1.reply)
 
   replies_served : (xs : List Exchange)
@@ -196,7 +198,7 @@ module _ (read_only : Bool) (base : Base) (start : Start) (delays : Delays) (law
   replies_served (x ∷ xs) sound moves none answered =
       let parts = sum_nothing (failures x.deed.calls) (failures (deed_in xs).calls)
       (sym (failures_join x.deed.calls (deed_in xs).calls) ∙ none) in (
-        reply_served x (deed_in xs) (refusal read_only base.geometry x.request.wanted) refl sound moves parts.0
+        reply_served x (deed_in xs) (verdict read_only base.geometry x.request.wanted) refl sound moves parts.0
             answered.0.answer,
         replies_served xs
             (older_is_sound base.geometry base.settings nothing_found start delays x.deed.entries

@@ -151,8 +151,8 @@ flushes_last false base did flushed is does = does
 -- the base of a fresh core is that of the plan
 fresh_base : (plan : PlanParts) (core : Core) → IsFresh plan.geometry core → base_of core ≡ plan_base plan
 fresh_base plan core fresh =
-    ap (λ (geometry : Geometry). record { geometry = geometry; settings = core.settings }) fresh.geometry_is
-    ∙ ap (λ (settings : Settings). record { geometry = plan.geometry; settings = settings }) fresh.settings_is
+    ap (λ (geometry : Geometry). record { geometry = geometry; settings = core.settings; alone = true }) fresh.geometry_is
+    ∙ ap (λ (settings : Settings). record { geometry = plan.geometry; settings = settings; alone = true }) fresh.settings_is
 
 -- a session over a fresh core and the flush after it are what a run promises
 pub session_serves : (plan : PlanParts) (a b c : Scene) (streams streams' : Streams)

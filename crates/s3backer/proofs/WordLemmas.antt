@@ -1,11 +1,15 @@
 -- Words that the readers refuse are of no given values.
 use Rattle.std.proofs.Common.{ℕ, ◌≡◌, List, [], ◌∷◌, ◌++◌, Option, Some, None, Bool, true, false, Result, Ok, Err}
 use Rattle.std.proofs.Common.{codes}
-use Rattle.std.proofs.Common.{sym, ◌∙◌, ap, arith, slice_index_or, if◌then◌else◌, nat_eq, length}
-use Rattle.std.specs.List.{list_any}
-use Rattle.s3backer.specs.Words.{Given, option_words, flag_words, is_option, AreWordsOf, IsPlan, plan_of}
-use Rattle.s3backer.specs.Words.{planned, shaped, sized, checked_names, prefix_or_empty, is_bad_prefix}
-use Rattle.s3backer.specs.Read.{TakesOption, TakesFlag, AreLast, ReadsWords, Plans}
+use Rattle.std.proofs.Common.{refl, sym, ◌∙◌, ap, arith, slice_index_or, if◌then◌else◌, nat_eq, length}
+use Rattle.std.specs.List.{list_any, starts_with}
+use Rattle.std.proofs.Common.{inl, inr}
+use Rattle.s3backer.specs.Directories.{DirectoryGiven, option_words, flag_words, is_option, plan_of_directory}
+use Rattle.s3backer.specs.Directories.{planned, shaped, sized, checked_directory, checked_names, prefix_or_empty, is_bad_prefix}
+use Rattle.s3backer.specs.Buckets.{BucketGiven, planned_bucket, checked_bucket, checked_url, placed, plan_of_bucket, is_bucket}
+use Rattle.s3backer.specs.Urls.{place_of}
+use Rattle.s3backer.specs.Words.{Given, AreWordsOf, IsPlan, plan_of}
+use Rattle.s3backer.specs.Read.{TakesOption, TakesFlag, AreLast, ReadsDirectory, Plans}
 use Rattle.s3backer.specs.Plans.{PlanParts}
 use Rattle.s3backer.specs.declared.words.Usage.{Usage}
 use Rattle.s3backer.specs.declared.words.Usage.TheVariants as usage
@@ -80,12 +84,25 @@ ends_badly words behind last None false option flagged none None false size dire
 pub no_values : (words first second behind last : List (List ℕ)) (prefix : Option (List ℕ)) (hashed : Bool)
     → words ≡ codes "--stdio" ∷ first → first ≡ codes "--test" ∷ second
     → TakesOption second (codes "--prefix=") prefix behind
-    → TakesFlag behind (codes "--blockHashPrefix") hashed last → AreLast last None → ReadsWords words None
+    → TakesFlag behind (codes "--blockHashPrefix") hashed last → AreLast last None → ReadsDirectory words None
 no_values words first second behind last prefix hashed stdio test option flagged none given form =
     let are : second ≡ front_words given.prefix given.hashed given.size given.directory =
     tail (sym test ∙ tail (sym stdio ∙ form.words_are)) in
     ends_badly second behind last prefix hashed option flagged none given.prefix given.hashed given.size given.directory
     are form.plain
+
+neither : {X : Type 0} (bad slash : Bool) (x y z : X) → bad ≡ false → slash ≡ false
+    → (if bad then x else if slash then y else z) ≡ z
+neither true slash x y z good flat = absurd (cc)
+neither false true x y z good flat = absurd (cc)
+neither false false x y z good flat = refl
+
+-- of a prefix that isn't refused the path decides
+pub names_pass : (prefix directory : List ℕ) → is_bad_prefix prefix ≡ false → list_any (nat_eq 47) prefix ≡ false
+    → checked_names prefix directory ≡ checked_directory directory
+names_pass prefix directory good flat =
+    neither (is_bad_prefix prefix) (list_any (nat_eq 47) prefix) (Err (usage.BadPrefix prefix)) (Err usage.PrefixSlash)
+    (checked_directory directory) good flat
 
 -- the plan of values is never refused as words of no form
 shaped_form : (outcome : Result Geometry GeometryFault) → shaped outcome ≡ Err usage.NotBuilt → ⊥
@@ -105,20 +122,54 @@ names_form prefix directory false true empty refused = absurd (cc)
 names_form prefix directory false false true refused = absurd (cc)
 names_form prefix directory false false false refused = absurd (cc)
 
-planned_form : (geometry : Result Geometry Usage) (names : Result Unit Usage) (given : Given)
+planned_form : (geometry : Result Geometry Usage) (names : Result Unit Usage) (given : DirectoryGiven)
     → (geometry ≡ Err usage.NotBuilt → ⊥) → (names ≡ Err usage.NotBuilt → ⊥)
     → planned geometry names given ≡ Err usage.NotBuilt → ⊥
 planned_form (Err cause) names given fits named refused = fits (cc)
 planned_form (Ok geometry) (Err cause) given fits named refused = named (cc)
 planned_form (Ok geometry) (Ok checked) given fits named refused = absurd (cc)
 
-has_form : (given : Given) → plan_of given ≡ Err usage.NotBuilt → ⊥
-has_form given refused =
+directory_form : (given : DirectoryGiven) → plan_of_directory given ≡ Err usage.NotBuilt → ⊥
+directory_form given refused =
     let prefix = prefix_or_empty given.prefix in
     planned_form (sized given.size (size_of given.size)) (checked_names prefix given.directory) given
     (sized_form given.size (size_of given.size))
     (names_form prefix given.directory (is_bad_prefix prefix) (list_any (nat_eq 47) prefix)
     (nat_eq (length given.directory) 0)) refused
+
+bucket_name_form : (name : List ℕ) (good : Bool)
+    → ◌≡◌ {A = Result (Unit {0}) Usage} (if good then Ok tt else Err (usage.BadBucket name)) (Err usage.NotBuilt) → ⊥
+bucket_name_form name true refused = absurd (cc)
+bucket_name_form name false refused = absurd (cc)
+
+placed_form : (url : List ℕ) (place : Option (List ℕ × ℕ)) → placed url place ≡ Err usage.NotBuilt → ⊥
+placed_form url (Some place) refused = absurd (cc)
+placed_form url None refused = absurd (cc)
+
+url_form : (url : List ℕ) (secure : Bool)
+    → ◌≡◌ {A = Result (List ℕ × ℕ) Usage} (if secure then Err usage.HttpsRefused else placed url (place_of url))
+    (Err usage.NotBuilt) → ⊥
+url_form url true refused = absurd (cc)
+url_form url false refused = placed_form url (place_of url) refused
+
+planned_bucket_form : (geometry : Result Geometry Usage) (name : Result Unit Usage) (place : Result (List ℕ × ℕ) Usage)
+    (given : BucketGiven)
+    → (geometry ≡ Err usage.NotBuilt → ⊥) → (name ≡ Err usage.NotBuilt → ⊥) → (place ≡ Err usage.NotBuilt → ⊥)
+    → planned_bucket geometry name place given ≡ Err usage.NotBuilt → ⊥
+planned_bucket_form (Err cause) name place given fits named stands refused = fits (cc)
+planned_bucket_form (Ok geometry) (Err cause) place given fits named stands refused = named (cc)
+planned_bucket_form (Ok geometry) (Ok checked) (Err cause) given fits named stands refused = stands (cc)
+planned_bucket_form (Ok geometry) (Ok checked) (Ok place) given fits named stands refused = absurd (cc)
+
+bucket_form : (given : BucketGiven) → plan_of_bucket given ≡ Err usage.NotBuilt → ⊥
+bucket_form given refused =
+    planned_bucket_form (sized given.size (size_of given.size)) (checked_bucket given.bucket) (checked_url given.url) given
+    (sized_form given.size (size_of given.size)) (bucket_name_form given.bucket (is_bucket given.bucket))
+    (url_form given.url (starts_with nat_eq given.url (codes "https:"))) refused
+
+has_form : (given : Given) → plan_of given ≡ Err usage.NotBuilt → ⊥
+has_form (inl given) refused = directory_form given refused
+has_form (inr given) refused = bucket_form given refused
 
 -- what values answer, the words answer
 pub planned_words : (words : List (List ℕ)) (given : Given) (outcome : Result PlanParts PlanFault)
@@ -135,5 +186,9 @@ planned_words words given (Err (fault.Usage (usage.BadPrefix prefix))) form answ
 planned_words words given (Err (fault.Usage usage.PrefixSlash)) form answers =
     record { given = given; form = form; fault_is = answers }
 planned_words words given (Err (fault.Usage (usage.BadBucket path))) form answers =
+    record { given = given; form = form; fault_is = answers }
+planned_words words given (Err (fault.Usage usage.HttpsRefused)) form answers =
+    record { given = given; form = form; fault_is = answers }
+planned_words words given (Err (fault.Usage (usage.BadUrl url))) form answers =
     record { given = given; form = form; fault_is = answers }
 planned_words words given (Err fault.Memory) form answers = record { given = given; form = form; owes = answers }

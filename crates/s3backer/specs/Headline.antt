@@ -41,7 +41,7 @@ use Rattle.sb_nbd.specs.declared.end.NbdEnd.TheVariants as nbd
 use Rattle.sb_session.specs.declared.end.SessionEnd.{SessionEnd}
 use Rattle.sb_session.specs.declared.end.SessionEnd.TheVariants as end
 use Rattle.sb_session.specs.Streams.{Streams}
-use Rattle.sb_session.specs.Goals.{refusal}
+use Rattle.sb_session.specs.Goals.{verdict}
 use Rattle.sb_session.specs.Transcripts.{Exchange}
 use Rattle.sb_session.specs.Sessions.{Course}
 use Rattle.s3backer.specs.Plans.{PlanParts, naming_of, plan_base, default_settings}
@@ -198,7 +198,7 @@ pub record IsKind (plan : PlanParts) (start : Start) (delays : Delays) (deed : D
 -- a reply has no error, that of a refusal by the table, or that of want of memory
 abbrev pub IsServed : Bool → Base → Exchange → Type 0
 IsServed read_only base x =
-    (x.error ≡ 0) ⊎ ((x.error ≡ enomem) ⊎ (refusal read_only base.geometry x.request.wanted ≡ Some x.error))
+    (x.error ≡ 0) ⊎ ((x.error ≡ enomem) ⊎ (verdict read_only base.geometry x.request.wanted ≡ Err x.error))
 
 -- so each reply of a session
 abbrev pub AllServed : {read_only : Bool} {base : Base} {before after : Streams} {ended : SessionEnd} {deed : Deed}

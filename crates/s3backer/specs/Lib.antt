@@ -1,4 +1,7 @@
 pub mod Plans
+pub mod Directories
+pub mod Urls
+pub mod Buckets
 pub mod Words
 pub mod Read
 pub mod Wordings

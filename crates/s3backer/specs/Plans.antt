@@ -1,5 +1,5 @@
 -- What a disk's plan is made of.
-use Rattle.std.specs.Prelude.{ℕ, Bool, List}
+use Rattle.std.specs.Prelude.{ℕ, Bool, true, List}
 use Rattle.sb_base.specs.declared.access.StorePlan.{StorePlan}
 use Rattle.sb_base.specs.declared.geometry.Geometry.{Geometry}
 use Rattle.sb_base.specs.declared.settings.Settings.{Settings}
@@ -39,4 +39,4 @@ default_settings = record {
 
 -- the size and the settings of a plan's disk
 abbrev pub plan_base : PlanParts → Base
-plan_base plan = record { geometry = plan.geometry; settings = default_settings }
+plan_base plan = record { geometry = plan.geometry; settings = default_settings; alone = true }

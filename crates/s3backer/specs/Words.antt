@@ -1,101 +1,27 @@
 -- Which words are taken, and what they mean.
-use Rattle.std.specs.Prelude.{ℕ, ◌≡◌, Bool, true, false, ◌||◌, nat_eq, nat_lt, if◌then◌else◌, List, []}
-use Rattle.std.specs.Prelude.{◌∷◌, ◌++◌, length, codes, Option, Some, None, Result, Ok, Err}
-use Rattle.std.specs.List.{list_any}
-use Rattle.sb_base.specs.declared.geometry.Geometry.{Geometry}
-use Rattle.sb_base.specs.declared.geometry.GeometryFault.{GeometryFault}
-use Rattle.sb_base.specs.declared.size.SizeFault.{SizeFault}
-use Rattle.sb_base.specs.declared.access.StorePlan.TheVariants as store
-use Rattle.sb_base.specs.Shapes.{geometry_of}
-use Rattle.sb_base.specs.Sizes.{size_of}
+use Rattle.std.specs.Prelude.{ℕ, ◌≡◌, ◌⊎◌, List, Result, Ok, Err}
+use Rattle.std.proofs.Common.{inl, inr}
 use Rattle.s3backer.specs.Plans.{PlanParts}
+use Rattle.s3backer.specs.Directories.{DirectoryGiven, AreDirectoryWords, plan_of_directory}
+use Rattle.s3backer.specs.Buckets.{BucketGiven, AreBucketWords, plan_of_bucket}
 use Rattle.s3backer.specs.declared.words.Usage.{Usage}
 use Rattle.s3backer.specs.declared.words.Usage.TheVariants as usage
 use Rattle.s3backer.specs.declared.words.PlanFault.{PlanFault}
 use Rattle.s3backer.specs.declared.words.PlanFault.TheVariants as fault
 
--- the values among words that are taken
-pub record Given : Type 0 where
-  pub prefix : Option (List ℕ)
-  pub hashed : Bool
-  pub size : List ℕ
-  pub directory : List ℕ
+-- the values among words that are taken, of a disk over a directory or over a bucket
+abbrev pub Given : Type 0
+Given = DirectoryGiven ⊎ BucketGiven
 
--- an option's word and its value, where it is given
-abbrev pub option_words : List ℕ → Option (List ℕ) → List (List ℕ)
-option_words name None = []
-option_words name (Some value) = (name ++ value) ∷ []
-
--- a flag's word, where it is given
-abbrev pub flag_words : List ℕ → Bool → List (List ℕ)
-flag_words name true = name ∷ []
-flag_words name false = []
-
--- the words that give these values: --stdio --test [--prefix=TEXT] [--blockHashPrefix] --size=SIZE DIR
-abbrev pub words_of : Given → List (List ℕ)
-words_of given =
-    codes "--stdio" ∷ codes "--test" ∷ option_words (codes "--prefix=") given.prefix
-    ++ flag_words (codes "--blockHashPrefix") given.hashed ++ (codes "--size=" ++ given.size) ∷ given.directory ∷ []
-
--- a word is an option: it begins with a dash and is longer
-abbrev pub is_option : List ℕ → Bool
-is_option (first ∷ second ∷ bytes) = nat_eq first 45
-is_option word = false
-
--- the words give these values, and the last one is no option
-pub record AreWordsOf (words : List (List ℕ)) (given : Given) : Type 0 where
-  pub words_are : words ≡ words_of given
-  pub plain : is_option given.directory ≡ false
-
--- a byte that no name of an object has: none of the printable ASCII, or one that XML gives a meaning
-abbrev pub is_odd : ℕ → Bool
-is_odd byte =
-    nat_lt byte 32 || nat_lt 126 byte || nat_eq byte 60 || nat_eq byte 62 || nat_eq byte 38 || nat_eq byte 34
-    || nat_eq byte 39
-
--- a prefix is longer than 200 bytes or has such a byte
-abbrev pub is_bad_prefix : List ℕ → Bool
-is_bad_prefix prefix = nat_lt 200 (length prefix) || list_any is_odd prefix
-
--- the prefix that is given, or none
-abbrev pub prefix_or_empty : Option (List ℕ) → List ℕ
-prefix_or_empty None = []
-prefix_or_empty (Some prefix) = prefix
-
--- the prefix and the path of a directory, or what is refused of them
-abbrev pub checked_names : List ℕ → List ℕ → Result Unit Usage
-checked_names prefix directory =
-    if is_bad_prefix prefix then Err (usage.BadPrefix prefix)
-    else if list_any (nat_eq 47) prefix then Err usage.PrefixSlash
-    else if nat_eq (length directory) 0 then Err (usage.BadBucket directory)
-    else Ok tt
-
--- the geometry, unless no disk has it
-abbrev pub shaped : Result Geometry GeometryFault → Result Geometry Usage
-shaped (Ok geometry) = Ok geometry
-shaped (Err fault) = Err (usage.Geometry fault)
-
--- the geometry of a disk whose size is this word, if it reads as so many bytes, in blocks of 4,096
-abbrev pub sized : List ℕ → Result ℕ SizeFault → Result Geometry Usage
-sized word (Ok bytes) = shaped (geometry_of bytes 4096)
-sized word (Err fault) = Err (usage.BadSize (codes "--size") word)
-
--- the plan of a disk over a directory, to be read and written
-abbrev pub directory_plan : Geometry → List ℕ → Bool → List ℕ → PlanParts
-directory_plan geometry prefix hashed directory =
-    record { store = store.Dir directory; prefix = prefix; hashed = hashed; geometry = geometry; read_only = false }
-
--- the plan of a geometry and of names, where neither is refused
-abbrev pub planned : Result Geometry Usage → Result Unit Usage → Given → Result PlanParts Usage
-planned (Err fault) names given = Err fault
-planned (Ok geometry) (Err fault) given = Err fault
-planned (Ok geometry) (Ok checked) given =
-    Ok (directory_plan geometry (prefix_or_empty given.prefix) given.hashed given.directory)
+-- the words give these values
+abbrev pub AreWordsOf : List (List ℕ) → Given → Type 0
+AreWordsOf words (inl given) = AreDirectoryWords words given
+AreWordsOf words (inr given) = AreBucketWords words given
 
 -- the plan by the values of the words, or the first of their faults
 abbrev pub plan_of : Given → Result PlanParts Usage
-plan_of given =
-    planned (sized given.size (size_of given.size)) (checked_names (prefix_or_empty given.prefix) given.directory) given
+plan_of (inl given) = plan_of_directory given
+plan_of (inr given) = plan_of_bucket given
 
 -- the words are taken, and have this plan
 pub record IsTaken (words : List (List ℕ)) (plan : PlanParts) : Type 0 where
@@ -118,7 +44,8 @@ IsRefused words fault = HasFault words fault
 abbrev pub TakesMemory : Usage → Type 0
 TakesMemory (usage.BadSize name word) = Unit {0}
 TakesMemory (usage.BadPrefix prefix) = Unit {0}
-TakesMemory (usage.BadBucket path) = Unit {0}
+TakesMemory (usage.BadBucket name) = Unit {0}
+TakesMemory (usage.BadUrl url) = Unit {0}
 TakesMemory fault = ⊥
 
 -- a plan takes memory, and so do some refusals

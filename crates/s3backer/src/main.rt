@@ -1,6 +1,10 @@
 //! One disk of fixed size whose blocks are objects of a store, served over NBD.
 #![tactic(auto)]
 
+mod bucket;
+#[cfg(test)]
+mod bucket_tests;
+mod directory;
 #[cfg(test)]
 mod folder_tests;
 mod plan;
@@ -11,10 +15,13 @@ mod tests;
 #[cfg(test)]
 mod time_tests;
 mod top;
+mod url;
 mod wording;
 mod words;
 #[cfg(test)]
 mod write_tests;
+#[cfg(test)]
+mod zero_tests;
 
 use crate::top::run;
 use sb_host::HostWorld;

@@ -12,6 +12,7 @@ use sb_core::Core;
 use sb_crew::{Alone, Calls, Desk, Names};
 use sb_fakes::{HandClock, MemoryConn, MemoryWorld, PlainStore, TimedStore};
 use sb_world::{Bench, Link, Meta, NoTape};
+use sb_zero::Zeros;
 use std::alloc::{AllocError, Global};
 use std::test::Fail;
 
@@ -20,7 +21,7 @@ const FLAGS: &[u8] = b"\x00\x00\x00\x03";
 pub(crate) const OPENING: &[u8] = b"\x00\x00\x00\x03IHAVEOPT\x00\x00\x00\x01\x00\x00\x00\x00";
 
 pub(crate) const HANDSHAKE: &[u8] =
-    b"NBDMAGICIHAVEOPT\x00\x03\x00\x00\x00\x00\x00\x01\x00\x00\x00\x0d";
+    b"NBDMAGICIHAVEOPT\x00\x03\x00\x00\x00\x00\x00\x01\x00\x00\x00\x6d";
 
 pub(crate) const DISC: &[u8] =
     b"\x25\x60\x95\x13\x00\x00\x00\x02\x00\x00\x00\x00\x00\x00\x00\x00\x00\x00\x00\x00\x00\x00\x00\x00\x00\x00\x00\x00";
@@ -248,14 +249,14 @@ fn a_read_only_disk_refuses_writes(rt: HostRuntime) -> Result<(), Fail> {
         alloc, &plan, bench, NoTape,
     );
     assert_eq!(rt; status, 0);
-    let greeting = b"NBDMAGICIHAVEOPT\x00\x03\x00\x00\x00\x00\x00\x01\x00\x00\x00\x0f";
+    let greeting = b"NBDMAGICIHAVEOPT\x00\x03\x00\x00\x00\x00\x00\x01\x00\x00\x00\x6f";
     let wanted = joined(alloc, &[greeting.as_slice(), EPERM_4])?;
     assert_eq!(rt; bench.output.bytes(), wanted.bytes());
     Ok(())
 }
 
 /// Whether words are refused with this line.
-fn is_refused(alloc: Global, words: &[&str], line: &[u8]) -> Result<bool, AllocError> {
+pub(crate) fn is_refused(alloc: Global, words: &[&str], line: &[u8]) -> Result<bool, AllocError> {
     let words = words_of(alloc, words)?;
     let sent = joined(alloc, &[OPENING, DISC])?;
     let done = session_of(alloc, words.as_slice(), PlainStore::new(alloc), sent)?;
@@ -265,7 +266,7 @@ fn is_refused(alloc: Global, words: &[&str], line: &[u8]) -> Result<bool, AllocE
 
 /// The line of words that are of no form.
 const FORM: &[u8] =
-    b"s3backer: usage: s3backer --stdio --test [--prefix=TEXT] [--blockHashPrefix] --size=SIZE DIR\n";
+    b"s3backer: usage: s3backer --stdio --test [--prefix=TEXT] [--blockHashPrefix] --size=SIZE DIR, or s3backer --stdio --baseURL=URL --accessId=ID --accessKey=KEY --size=SIZE BUCKET\n";
 
 #[test]
 fn words_of_no_form_are_refused(rt: HostRuntime) -> Result<(), Fail> {
@@ -315,7 +316,7 @@ fn the_first_fault_of_values_is_told(rt: HostRuntime) -> Result<(), Fail> {
         ),
         (
             &["--stdio", "--test", "--size=64k", ""],
-            b"s3backer: usage: the name of the directory is empty\n",
+            b"s3backer: usage: not the name of a bucket or directory: \n",
         ),
     ];
     for (words, line) in rows {
@@ -341,7 +342,8 @@ fn a_block_of_16_mib_is_read(rt: HostRuntime) -> Result<(), Fail> {
         cache_size: 2,
         ..SETTINGS
     };
-    let core = Core::new(alloc, geometry, settings)?;
+    let zeros = Zeros::new(alloc, geometry.blocks)?;
+    let core = Core::new(alloc, geometry, settings, zeros)?;
     let mut disk = Alone::new(core, plain_names(alloc, &geometry), NoTape);
     let mut out = [1];
     let part = Part {

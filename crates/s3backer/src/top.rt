@@ -39,6 +39,7 @@ use sb_laws::{sound_flushes, sound_is_legal, sound_survives_crash, stale_is_youn
 use sb_nbd::NbdEnd;
 use sb_session::{Buffer, SessionEnd, serve_alone};
 use sb_world::{Bench, Clock, Link, MakeFault, Meta, Sink, Source, Tape, World};
+use sb_zero::Zeros;
 use std::alloc::{AllocError, Global};
 
 /// What a run leaves: the exit status, and the tape.
@@ -150,7 +151,8 @@ fn make(alloc: Global, plan: &Plan) -> Result<(Core, Buffer, Names), AllocError>
     ensures core { IfOk result (λ made. IsFresh plan.now.geometry made.0) }
     ensures names { IfOk result (λ made. made.2 ≡ naming_of plan.now) }
 {
-    let core = Core::new(alloc, plan.geometry, SETTINGS)?;
+    let zeros = Zeros::new(alloc, plan.geometry.blocks)?;
+    let core = Core::new(alloc, plan.geometry, SETTINGS, zeros)?;
     let buffer = Buffer::new(alloc)?;
     let names = Names {
         prefix: String::from_str(alloc, plan.prefix.as_str())?,

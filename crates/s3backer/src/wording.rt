@@ -26,10 +26,7 @@ fn wording(alloc: Global, usage: &Usage) -> Result<Vec<u8>, AllocError>
     ensures { IfOk result (λ text. IsWording usage.now text.items) }
 {
     match usage {
-        Usage::NotBuilt => Vec::from_slice(
-            alloc,
-            b"s3backer --stdio --test [--prefix=TEXT] [--blockHashPrefix] --size=SIZE DIR",
-        ),
+        Usage::NotBuilt => forms(alloc),
         Usage::BadSize { name, word } => {
             with_values(alloc, name.bytes(), b": not a size: ", word.bytes())
         }
@@ -41,8 +38,34 @@ fn wording(alloc: Global, usage: &Usage) -> Result<Vec<u8>, AllocError>
             with_value(alloc, b"--prefix: not a prefix: ", prefix.bytes())
         }
         Usage::PrefixSlash => Vec::from_slice(alloc, b"--prefix: a slash, with --test"),
-        Usage::BadBucket(_) => Vec::from_slice(alloc, b"the name of the directory is empty"),
+        Usage::BadBucket(name) => {
+            with_value(
+                alloc,
+                b"not the name of a bucket or directory: ",
+                name.bytes(),
+            )
+        }
+        Usage::HttpsRefused => Vec::from_slice(alloc, b"--baseURL: https is not supported"),
+        Usage::BadUrl(url) => with_value(
+            alloc,
+            b"--baseURL: not http://host/ or http://host:port/: ",
+            url.bytes(),
+        ),
     }
+}
+
+/// The forms of the words.
+fn forms(alloc: Global) -> Result<Vec<u8>, AllocError>
+    ensures { IfOk result (λ text. IsWording Usage.NotBuilt text.items) }
+{
+    let mut text = Vec::from_slice(
+        alloc,
+        b"s3backer --stdio --test [--prefix=TEXT] [--blockHashPrefix] --size=SIZE DIR",
+    )?;
+    text.extend_from_slice(
+        b", or s3backer --stdio --baseURL=URL --accessId=ID --accessKey=KEY --size=SIZE BUCKET",
+    )?;
+    Ok(text)
 }
 
 /// A text, and a value behind it.

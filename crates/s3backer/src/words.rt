@@ -1,36 +1,19 @@
 //! The words that the program is called with.
 
-ghost use Rattle.std.specs.Prelude.{◌≡◌, ◌≤◌, ◌∷◌, ◌++◌, IfOk, Ok, Err, string_bytes, map, codes, length};
+ghost use Rattle.std.specs.Prelude.{◌≡◌, ◌≤◌, IfOk, Some, string_bytes, map, codes, length};
 ghost use Rattle.sb_base.specs.Shapes.{IsSound};
 ghost use Rattle.sb_base.specs.Sizes.{size_of};
-ghost use Rattle.std.specs.List.{list_any};
-ghost use Rattle.std.specs.Option.{option_copied, option_map};
+ghost use Rattle.sb_world.specs.Benches.{HasPauses};
+ghost use Rattle.std.specs.Option.{option_map};
 ghost use Rattle.sb_names.specs.declared.names.TheConstants.{MAX_PREFIX};
-ghost use Rattle.s3backer.specs.Words.{
-  IsPlan,
-  plan_of,
-  directory_plan,
-  sized,
-  checked_names,
-  is_option,
-  is_odd,
-  is_bad_prefix,
-};
-ghost use Rattle.s3backer.specs.Read.{
-  given_of,
-  StripsWord,
-  TakesOption,
-  TakesFlag,
-  AreLast,
-  ReadsWords,
-  Answers,
-  Plans,
-  refused_as,
-};
+ghost use Rattle.s3backer.specs.Directories.{is_option, sized};
+ghost use Rattle.s3backer.specs.Words.{IsPlan, plan_of};
+ghost use Rattle.s3backer.specs.Read.{Answers, AreLast, Plans, ReadsWords, StripsWord, TakesValue, given_of, refused_as};
 
+use crate::bucket::{BucketValues, plan_of_bucket, read_bucket};
+use crate::directory::{DirectoryValues, plan_of_directory, read_directory};
 use crate::plan::Plan;
-use sb_base::{Geometry, GeometryFault, StorePlan, Text, read_size};
-use sb_names::MAX_PREFIX;
+use sb_base::{Geometry, GeometryFault, Text, read_size};
 use std::alloc::{AllocError, Global};
 
 /// The block size of a disk, in bytes.
@@ -50,8 +33,13 @@ pub enum Usage {
     BadPrefix(Text),
     /// The prefix has a slash, and the store is a directory.
     PrefixSlash,
-    /// The path of the directory is empty.
+    /// The name of the bucket isn't 1 to 63 letters, digits, `.`, `-` and `_`, or the path of the directory is empty.
     BadBucket(Text),
+    /// The base URL begins with `https:`.
+    HttpsRefused,
+    /// The base URL isn't `http://host/` or `http://host:port/`, with a host of letters, digits, `.` and `-`, and a port
+    /// of 1 to 65,535.
+    BadUrl(Text),
 }
 
 /// Why there is no plan.
@@ -61,22 +49,22 @@ pub enum PlanFault {
     Memory,
 }
 
-/// The values among the words of the form.
+/// The values among words that are taken.
 #[derive(Drop)]
-struct Values<'a> {
-    prefix: Option<&'a str>,
-    hashed: bool,
-    size: &'a str,
-    directory: &'a str,
+enum Values<'a> {
+    Directory(DirectoryValues<'a>),
+    Bucket(BucketValues<'a>),
 }
 
-/// Reads the words `--stdio --test [--prefix=TEXT] [--blockHashPrefix] --size=SIZE DIR`. Other words are `NotBuilt`.
-/// Then the first fault is told, in this order: a size that doesn't read is `BadSize`, one that no disk has is
-/// `Geometry`, and then come `BadPrefix`, `PrefixSlash` and `BadBucket`.
+/// Reads the words `--stdio --test [--prefix=TEXT] [--blockHashPrefix] --size=SIZE DIR` of a disk over a directory, or
+/// `--stdio --baseURL=URL --accessId=ID --accessKey=KEY --size=SIZE BUCKET` of one over a bucket. Other words are
+/// `NotBuilt`. Then the first fault is told, in this order: a size that doesn't read is `BadSize`, one that no disk has is
+/// `Geometry`, and then come `BadPrefix`, `PrefixSlash`, `BadBucket`, `HttpsRefused` and `BadUrl`.
 pub fn plan(alloc: Global, words: &[String]) -> Result<Plan, PlanFault>
     ensures plan { IsPlan (map string_bytes words.now) result }
     ensures sound { IfOk result (λ plan. IsSound plan.geometry) }
     ensures prefix { IfOk result (λ plan. length plan.prefix ≤ MAX_PREFIX) }
+    ensures pauses { IfOk result (λ plan. HasPauses (Some plan.store)) }
 {
     match read_words(words) {
         Some(given) => plan_of(alloc, &given),
@@ -84,25 +72,34 @@ pub fn plan(alloc: Global, words: &[String]) -> Result<Plan, PlanFault>
     }
 }
 
-/// The values of words of the form.
+/// The values of words of either form.
 fn read_words(words: &[String]) -> Option<Values<'_>>
     ensures { ReadsWords (map string_bytes words.now) (option_map given_of result) }
 {
-    let words = strip_word(words, "--stdio")?;
-    let words = strip_word(words, "--test")?;
-    let (prefix, words) = take_option(words, "--prefix=");
-    let (hashed, words) = take_flag(words, "--blockHashPrefix");
-    let (size, directory) = size_and_directory(words)?;
-    Some(Values {
-        prefix,
-        hashed,
-        size,
-        directory,
-    })
+    match read_directory(words) {
+        Some(values) => Some(Values::Directory(values)),
+        None => match read_bucket(words) {
+            Some(values) => Some(Values::Bucket(values)),
+            None => None,
+        },
+    }
+}
+
+/// The plan by the values of the words.
+fn plan_of(alloc: Global, values: &Values<'_>) -> Result<Plan, PlanFault>
+    ensures plan { Plans (plan_of (given_of values.now)) result }
+    ensures sound { IfOk result (λ plan. IsSound plan.geometry) }
+    ensures prefix { IfOk result (λ plan. length plan.prefix ≤ MAX_PREFIX) }
+    ensures pauses { IfOk result (λ plan. HasPauses (Some plan.store)) }
+{
+    match values {
+        Values::Directory(values) => plan_of_directory(alloc, values),
+        Values::Bucket(values) => plan_of_bucket(alloc, values),
+    }
 }
 
 /// The words behind this one, if it is the first.
-fn strip_word<'a>(words: &'a [String], word: &str) -> Option<&'a [String]>
+pub(crate) fn strip_word<'a>(words: &'a [String], word: &str) -> Option<&'a [String]>
     ensures { StripsWord (map string_bytes words.now) word.now (option_map (λ x. map string_bytes x.now) result) }
 {
     let (first, rest) = words.split_first()?;
@@ -113,93 +110,41 @@ fn strip_word<'a>(words: &'a [String], word: &str) -> Option<&'a [String]>
     }
 }
 
-/// The value of an option, if it is the first word, and the words behind it.
-fn take_option<'a>(words: &'a [String], name: &str) -> (Option<&'a str>, &'a [String])
-    ensures { TakesOption (map string_bytes words.now) name.now (option_copied result.0)
-        (map string_bytes result.1.now) }
+/// The value of an option that is the first word, and the words behind it.
+pub(crate) fn take_value<'a>(words: &'a [String], name: &str) -> Option<(&'a str, &'a [String])>
+    ensures { TakesValue (map string_bytes words.now) name.now
+        (option_map (λ x. (x.0.now, map string_bytes x.1.now)) result) }
 {
     match words {
         [first, rest @ ..] => match first.as_str().strip_prefix(name) {
-            Some(value) => (Some(value), rest),
-            None => (None, words),
+            Some(value) => Some((value, rest)),
+            None => None,
         },
-        [] => (None, words),
+        [] => None,
     }
 }
 
-/// Whether a flag is the first word, and the words behind it.
-fn take_flag<'a>(words: &'a [String], name: &str) -> (bool, &'a [String])
-    ensures { TakesFlag (map string_bytes words.now) name.now result.0 (map string_bytes result.1.now) }
-{
-    match strip_word(words, name) {
-        Some(rest) => (true, rest),
-        None => (false, words),
-    }
-}
-
-/// The size and the directory, if the words are just these.
-fn size_and_directory(words: &[String]) -> Option<(&str, &str)>
+/// The size and the last word, if the words are just these and the last one is no option.
+pub(crate) fn size_and_last(words: &[String]) -> Option<(&str, &str)>
     ensures { AreLast (map string_bytes words.now) (option_map (λ x. (x.0.now, x.1.now)) result) }
 {
     match words {
-        [size, directory] if !is_option(directory.as_str()) => {
-            Some((size.as_str().strip_prefix("--size=")?, directory.as_str()))
+        [size, last] if !is_option(last.as_str()) => {
+            Some((size.as_str().strip_prefix("--size=")?, last.as_str()))
         }
         _ => None,
     }
 }
 
 /// Whether a word begins with a dash and is longer.
-fn is_option(word: &str) -> bool
+pub(crate) fn is_option(word: &str) -> bool
     ensures { result ≡ is_option word.now }
 {
     matches!(word.as_bytes(), [b'-', _, ..])
 }
 
-/// The plan by the values of the words.
-fn plan_of(alloc: Global, values: &Values<'_>) -> Result<Plan, PlanFault>
-    ensures plan { Plans (plan_of (given_of values.now)) result }
-    ensures sound { IfOk result (λ plan. IsSound plan.geometry) }
-    ensures prefix { IfOk result (λ plan. length plan.prefix ≤ MAX_PREFIX) }
-{
-    let geometry = match geometry_of(alloc, values.size) {
-        Ok(geometry) => geometry,
-        Err(fault) => return Err(fault),
-    };
-    let prefix = values.prefix.unwrap_or("");
-    match check_names(alloc, prefix, values.directory) {
-        Ok(()) => {}
-        Err(fault) => return Err(fault),
-    }
-    match directory_plan(alloc, geometry, prefix, values.hashed, values.directory) {
-        Ok(plan) => Ok(plan),
-        Err(_) => Err(PlanFault::Memory),
-    }
-}
-
-/// The plan of a disk over a directory.
-fn directory_plan(
-    alloc: Global,
-    geometry: Geometry,
-    prefix: &str,
-    hashed: bool,
-    directory: &str,
-) -> Result<Plan, AllocError>
-    ensures { IfOk result (λ plan. plan ≡ directory_plan geometry prefix.now hashed directory.now) }
-{
-    Ok(Plan {
-        store: StorePlan::Dir {
-            path: Text::of(alloc, directory.as_bytes())?,
-        },
-        prefix: String::from_str(alloc, prefix)?,
-        hashed,
-        geometry,
-        read_only: false,
-    })
-}
-
 /// The geometry of a disk whose size is this word.
-fn geometry_of(alloc: Global, size: &str) -> Result<Geometry, PlanFault>
+pub(crate) fn geometry_of(alloc: Global, size: &str) -> Result<Geometry, PlanFault>
     ensures answer { Answers (sized size.now (size_of size.now)) result }
     ensures sound { IfOk result IsSound }
 {
@@ -223,7 +168,7 @@ fn bad_size(alloc: Global, word: &str) -> Result<Usage, AllocError>
 }
 
 /// A fault of words, or want of memory for telling it.
-fn refused_as(usage: Result<Usage, AllocError>) -> PlanFault
+pub(crate) fn refused_as(usage: Result<Usage, AllocError>) -> PlanFault
     ensures { result ≡ refused_as usage }
 {
     match usage {
@@ -232,53 +177,9 @@ fn refused_as(usage: Result<Usage, AllocError>) -> PlanFault
     }
 }
 
-/// Checks the prefix of names, and the path of a directory.
-fn check_names(alloc: Global, prefix: &str, directory: &str) -> Result<(), PlanFault>
-    ensures answer { Answers (checked_names prefix.now directory.now) result }
-    ensures prefix { IfOk result (λ _. length prefix.now ≤ MAX_PREFIX) }
-{
-    if is_bad_prefix(prefix.as_bytes()) {
-        Err(refused_as(bad_prefix(alloc, prefix)))
-    } else if prefix.as_bytes().contains(&b'/') {
-        Err(PlanFault::Usage(Usage::PrefixSlash))
-    } else if directory.is_empty() {
-        Err(refused_as(bad_bucket(alloc, directory)))
-    } else {
-        Ok(())
-    }
-}
-
-/// The fault of a prefix.
-fn bad_prefix(alloc: Global, prefix: &str) -> Result<Usage, AllocError>
-    ensures { IfOk result (λ usage. usage ≡ Usage.BadPrefix prefix.now) }
-{
-    Ok(Usage::BadPrefix(Text::of(alloc, prefix.as_bytes())?))
-}
-
 /// The fault of a bucket's name, or a directory's path.
-fn bad_bucket(alloc: Global, bucket: &str) -> Result<Usage, AllocError>
+pub(crate) fn bad_bucket(alloc: Global, bucket: &str) -> Result<Usage, AllocError>
     ensures { IfOk result (λ usage. usage ≡ Usage.BadBucket bucket.now) }
 {
     Ok(Usage::BadBucket(Text::of(alloc, bucket.as_bytes())?))
-}
-
-/// Whether a prefix is too long, or has a byte that no name may have.
-fn is_bad_prefix(prefix: &[u8]) -> bool
-    ensures { result ≡ is_bad_prefix prefix.now }
-{
-    prefix.len() > MAX_PREFIX || has_odd(prefix)
-}
-
-/// Whether a prefix has a byte that no name may have.
-fn has_odd(prefix: &[u8]) -> bool
-    ensures { result ≡ list_any is_odd prefix.now }
-{
-    prefix.iter().any(|byte| is_odd(*byte))
-}
-
-/// Whether a byte is none of the printable ASCII, or one that XML gives a meaning.
-fn is_odd(byte: u8) -> bool
-    ensures { result ≡ is_odd byte }
-{
-    !(0x20..=0x7e).contains(&byte) || matches!(byte, b'<' | b'>' | b'&' | b'"' | b'\'')
 }

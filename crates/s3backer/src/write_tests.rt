@@ -1,6 +1,7 @@
 //! Writes and flushes of the program in a world in memory, and of its disk.
 
 ghost use Rattle.std.specs.Prelude.{◌≡◌, ◌≢◌, ◌≤◌, ◌<◌, None, vec_len};
+ghost use Rattle.sb_base.specs.Ranges.{IsPart};
 
 use crate::settings::SETTINGS;
 use crate::tests::{
@@ -12,6 +13,7 @@ use sb_core::Core;
 use sb_crew::{Alone, Calls, Desk};
 use sb_fakes::{HandClock, MemoryConn, PlainStore, TimedStore};
 use sb_world::{Got, Link, Tape};
+use sb_zero::Zeros;
 use std::alloc::{AllocError, Global};
 use std::test::Fail;
 
@@ -21,6 +23,10 @@ pub(crate) const READ: u16 = 0;
 pub(crate) const WRITE: u16 = 1;
 
 pub(crate) const FLUSH: u16 = 3;
+
+pub(crate) const TRIM: u16 = 4;
+
+pub(crate) const WRITE_ZEROES: u16 = 6;
 
 /// A request without its bytes.
 pub(crate) fn request(
@@ -124,11 +130,26 @@ impl Tape for Kinds {
     }
 }
 
+/// Whether two parts of 2,048 bytes are written, one after the other.
+fn writes_both<K, D: Calls<K>>(disk: &mut D, desk: &mut K, first: Part, second: Part) -> bool
+    requires ready { D.ready disk.old desk.old }
+    requires first { IsPart (D.base disk.old).geometry first }
+    requires second { IsPart (D.base disk.old).geometry second }
+    requires first_length { first.length ≡ 2048 }
+    requires second_length { second.length ≡ 2048 }
+{
+    disk.write(desk, first, &[0x41; 2048]).is_ok()
+        && disk.write(desk, second, &[0x42; 2048]).is_ok()
+}
+
 /// Whether a write over the border of the first two blocks adds these entries, over a cache of so many blocks.
 fn border_adds(alloc: Global, cache_size: u32, wanted: &[u8]) -> Result<bool, Fail>
     requires { (0 < cache_size) × (cache_size ≤ 1048576) }
 {
     let geometry = Geometry::make(65_536, 4096)?;
+    if geometry.blocks < 2 {
+        return Err(Fail::from("no second block"));
+    }
     let settings = Settings {
         cache_size,
         ..SETTINGS
@@ -141,7 +162,8 @@ fn border_adds(alloc: Global, cache_size: u32, wanted: &[u8]) -> Result<bool, Fa
     let kinds = Kinds {
         text: Vec::new(alloc),
     };
-    let core = Core::new(alloc, geometry, settings)?;
+    let zeros = Zeros::new(alloc, geometry.blocks)?;
+    let core = Core::new(alloc, geometry, settings, zeros)?;
     let mut disk = Alone::new(core, plain_names(alloc, &geometry), kinds);
     let first = Part {
         block: 0,
@@ -153,11 +175,10 @@ fn border_adds(alloc: Global, cache_size: u32, wanted: &[u8]) -> Result<bool, Fa
         offset: 0,
         length: 2048,
     };
-    let done = disk.flush(&mut desk).is_ok()
-        && disk.write(&mut desk, first, &[0x41; 2048]).is_ok()
-        && disk.write(&mut desk, second, &[0x42; 2048]).is_ok();
+    let flushed = disk.flush(&mut desk).is_ok();
+    let written = writes_both(&mut disk, &mut desk, first, second);
     let (_core, kinds) = disk.finish();
-    Ok(done && kinds.text.as_slice() == wanted)
+    Ok(flushed && written && kinds.text.as_slice() == wanted)
 }
 
 #[test]
@@ -292,6 +313,16 @@ impl Array {
         &self.bytes[begin..end]
     }
 
+    /// Fills each block of 4,096 bytes that lies wholly between two places with zeros.
+    fn trim(&mut self, begin: usize, end: usize) {
+        for block in 0..16 {
+            let at = 4096 * block;
+            if begin <= at && at + 4096 <= end {
+                self.fill(at, at + 4096, 0);
+            }
+        }
+    }
+
     /// Fills them with one byte.
     fn fill(&mut self, begin: usize, end: usize, byte: u8)
         requires { (begin ≤ end) × (end ≤ 65536) }
@@ -315,7 +346,7 @@ fn random_requests_get_the_replies_of_an_array(rt: HostRuntime) -> Result<(), Fa
         let offset = numbers.below(65_537 - length);
         let begin = offset as usize;
         let end = (offset + length) as usize;
-        match numbers.below(9) {
+        match numbers.below(11) {
             0..=3 => {
                 let fill = numbers.below(3) as u8;
                 disk.fill(begin, end, fill);
@@ -328,8 +359,26 @@ fn random_requests_get_the_replies_of_an_array(rt: HostRuntime) -> Result<(), Fa
                 wanted.extend_from_slice(&reply(alloc, 0, cookie)?)?;
                 wanted.extend_from_slice(disk.part(begin, end))?;
             }
-            _ => {
+            8 => {
                 asked.extend_from_slice(&request(alloc, FLUSH, cookie, offset, 0)?)?;
+                wanted.extend_from_slice(&reply(alloc, 0, cookie)?)?;
+            }
+            9 => {
+                disk.fill(begin, end, 0);
+                asked.extend_from_slice(&request(
+                    alloc,
+                    WRITE_ZEROES,
+                    cookie,
+                    offset,
+                    length as u32,
+                )?)?;
+                wanted.extend_from_slice(&reply(alloc, 0, cookie)?)?;
+            }
+            _ => {
+                let length = 8 * length;
+                let offset = numbers.below(65_537 - length);
+                disk.trim(offset as usize, (offset + length) as usize);
+                asked.extend_from_slice(&request(alloc, TRIM, cookie, offset, length as u32)?)?;
                 wanted.extend_from_slice(&reply(alloc, 0, cookie)?)?;
             }
         }

@@ -16,7 +16,7 @@ returns g c =
     let is = ap (λ (p : PlanParts). p.read_only) c.plan.view_is in
     let scene = scene_of g.T.Tape g.L.Link g.C.Clock in
     let fresh = subst (λ (k : Core). IsFresh plan.geometry k) (sym c.new-disk.ensures.core) c.requires.fresh in
-    rw (c.finish-core.ensures, c.into_parts-link.ensures, ← c.new-disk.ensures.tape)
+    rw (c.finish-core.ensures, c.into_parts-link.ensures, ← (c.new-disk.ensures.unmarked c.requires.fresh.unmarked))
     (session_serves plan (scene disk c.args.desk) (scene ended.new.disk ended.new.desk)
     (scene flushed.new.disk flushed.new.desk)
     (streams_at (g.R.Source.left c.args.input.now) (g.S.Sink.held c.args.output.now))

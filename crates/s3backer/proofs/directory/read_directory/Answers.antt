@@ -1,7 +1,7 @@
 use Rattle.std.proofs.Common.{map, string_bytes}
 use Rattle.std.specs.Option.{option_copied}
 use Rattle.s3backer.proofs.WordLemmas.{no_values}
-use Rattle.s3backer.proofs.words.read_words.Goals as goal
+use Rattle.s3backer.proofs.directory.read_directory.Goals as goal
 
 pub returns-in_err-size : goal.returns-in_err-size
 returns-in_err-size c =
