@@ -1,5 +1,5 @@
 #!/usr/bin/env python3
-"""Opens disks of the built program by libnbd: flags, block sizes, FUA, and errors as the client's errno. Usage: libnbd.py PROGRAM
+"""Opens disks of the built program by libnbd: flags, block sizes, FUA, TRIM, zeros, and errors as the client's errno. Usage: libnbd.py PROGRAM
 
 It prints `skipped: libnbd` where Python has no module nbd.
 """
@@ -45,13 +45,21 @@ def check(name, client, protocol="newstyle-fixed"):
     expect(f"{name}: protocol", client.get_protocol(), protocol)
     expect(f"{name}: size", client.get_size(), 1 << 20)
     expect(f"{name}: flush, FUA, read-only", (client.can_flush(), client.can_fua(), client.is_read_only()), (True, True, False))
-    expect(f"{name}: TRIM, ZEROES, several clients", (client.can_trim(), client.can_zero(), client.can_multi_conn()), (False, False, False))
+    expect(f"{name}: TRIM, ZEROES, several clients", (client.can_trim(), client.can_zero(), client.can_multi_conn()), (True, True, False))
     client.pwrite(b"A" * 5000, 4000, nbd.CMD_FLAG_FUA)
     expect(f"{name}: what was written", bytes(client.pread(5002, 3999)), b"\0" + b"A" * 5000 + b"\0")
     client.flush()
     expect(f"{name}: a write past the end", error_of(client.pwrite, b"AB", (1 << 20) - 1), errno.ENOSPC)
     expect(f"{name}: a read past the end", error_of(client.pread, 2, (1 << 20) - 1), errno.EINVAL)
     expect(f"{name}: after these", bytes(client.pread(1, 4000)), b"A")
+    client.trim(8192, 2048, nbd.CMD_FLAG_FUA)
+    expect(f"{name}: behind a trim", bytes(client.pread(5002, 3999)), b"\0" + b"A" * 96 + bytes(4096) + b"A" * 808 + b"\0")
+    client.zero(100, 4050)
+    client.zero(4, 8200, nbd.CMD_FLAG_NO_HOLE | nbd.CMD_FLAG_FUA)
+    expect(f"{name}: behind zeros", bytes(client.pread(5002, 3999)),
+           b"\0" + b"A" * 50 + bytes(46 + 4096) + b"A" * 8 + bytes(4) + b"A" * 796 + b"\0")
+    expect(f"{name}: a trim past the end", error_of(client.trim, 2, (1 << 20) - 1), errno.EINVAL)
+    expect(f"{name}: zeros past the end", error_of(client.zero, 2, (1 << 20) - 1), errno.ENOSPC)
     client.shutdown()
 
 
