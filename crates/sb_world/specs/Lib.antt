@@ -1,5 +1,6 @@
 pub mod Told
 pub mod Streams
+pub mod Listeners
 pub mod Calls
 pub mod Benches
 pub mod Worlds

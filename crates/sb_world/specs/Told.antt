@@ -1,5 +1,5 @@
 -- What an object of the outside tells, and when it may fail.
-use Rattle.std.specs.Prelude.{ℕ, ◌≡◌, ◌+◌, ◌-◌, ◌^◌, ◌≤◌, min, Bool, true, false, List, ◌++◌, Option, Some}
+use Rattle.std.specs.Prelude.{ℕ, ◌≡◌, ◌+◌, ◌-◌, ◌^◌, ◌≤◌, min, Bool, true, false, List, [], ◌++◌, Option, Some}
 
 -- where the list is told now, it was told before and has gained these since, the newest first
 pub record Gains {X : Type 0} (before now : Option (List X)) (gained : List X) : Type 0 where
@@ -19,3 +19,12 @@ pub record CountsJust (before now : ℕ) (failed : Bool) : Type 0 where
   pub later : before ≤ now
   pub rises : failed ≡ true → Rose before now
   pub stays : failed ≡ false → now ≡ before
+
+-- where it is told, nothing is there
+abbrev pub IsEmpty : {X : Type 0} → Option (List X) → Type 0
+IsEmpty {X} told = (list : List X) → told ≡ Some list → list ≡ []
+
+-- nothing happened yet: where it is told, the log is empty, and the count of faults is 0
+pub record IsUnused {X : Type 0} (log : Option (List X)) (faults : ℕ) : Type 0 where
+  pub empty : IsEmpty log
+  pub counted : faults ≡ 0
