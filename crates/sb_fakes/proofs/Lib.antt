@@ -1,4 +1,5 @@
 pub mod Taking
+pub mod FreshLemmas
 pub mod NameLemmas
 pub mod FileLemmas
 pub mod VersionLemmas

@@ -3,6 +3,8 @@ pub mod Failing
 pub mod Versions
 pub mod Connections
 pub mod Wires
+pub mod Listeners
+pub mod Fresh
 pub mod Worlds
 pub mod Told
 pub mod Clocks

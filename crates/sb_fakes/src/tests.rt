@@ -1,13 +1,16 @@
 //! What no clause says: that memory is found, the texts of a HEAD, the names of a listing, and values from outside.
 
+ghost use Rattle.std.specs.Prelude.{IfOk};
+ghost use Rattle.sb_fakes.specs.Fresh.{IsUntouched};
+
 use crate::{
-    HandClock, Left, MemoryConn, MemoryFolder, MemoryWorld, Object, PlainStore, SharedClock, Show,
-    SlowLink, TimedStore,
+    HandClock, Left, MemoryConn, MemoryFolder, MemoryListener, MemoryWorld, Object, PlainStore,
+    SharedClock, SharedLink, Show, SlowLink, TimedStore,
 };
 use sb_base::{StorePlan, Text};
 use sb_world::{
-    Bench, Clock, FileGot, Folder, FolderFault, Got, HeadText, Link, LinkFault, MakeFault, Meta,
-    Page, World,
+    Ask, Bench, Clock, FileGot, Folder, FolderFault, Got, HeadText, Link, LinkFault, Listener,
+    MakeFault, Meta, Page, World,
 };
 use std::alloc::{AllocError, Global};
 use std::cell::Cell;
@@ -404,19 +407,109 @@ fn a_listing_of_a_folder_has_each_name_once(rt: HostRuntime) -> Result<(), Fail>
     Ok(())
 }
 
-/// A world with two links and the other parts of a bench.
-fn world(alloc: Global) -> Result<MemoryWorld<PlainStore>, AllocError> {
-    let mut links = Vec::new(alloc);
-    let mut clocks = Vec::new(alloc);
-    let mut inputs = Vec::new(alloc);
-    let mut sinks = Vec::new(alloc);
-    clocks.push(HandClock::new(alloc, 0, 0, false))?;
-    inputs.push(MemoryConn::source(Text::of(alloc, b"in")?, 1, Vec::new(alloc)))?;
-    for _part in 0..2_u32 {
-        links.push(PlainStore::new(alloc))?;
-        sinks.push(MemoryConn::sink(alloc, Vec::new(alloc)))?;
+/// A listener of these inputs.
+fn listener(alloc: Global, inputs: &[&[u8]]) -> Result<MemoryListener, AllocError>
+    ensures { IfOk result IsUntouched }
+{
+    let mut texts = Vec::new(alloc);
+    for input in inputs {
+        texts.push(Text::of(alloc, input)?)?;
     }
-    Ok(MemoryWorld::new(alloc, links, clocks, inputs, sinks))
+    Ok(MemoryListener::new(alloc, texts))
+}
+
+/// What comes: what its source has left, and nothing where none comes any more.
+fn came(alloc: Global, listener: &mut MemoryListener, number: u64) -> Result<Text, AllocError> {
+    match listener.accept() {
+        Ok(Some((source, sink))) => {
+            let left = Text::of(alloc, source.bytes())?;
+            listener.back(source, sink, number);
+            Ok(left)
+        }
+        Ok(None) => Text::of(alloc, b"over"),
+        Err(_) => Text::of(alloc, b"!"),
+    }
+}
+
+#[test]
+fn a_listener_has_a_connection_for_each_input(rt: HostRuntime) -> Result<(), Fail> {
+    let mut listener = listener(rt.alloc(), &[b"one", b"", b"two"])?;
+    let mut number = 7;
+    for wanted in [b"one".as_slice(), b"", b"two", b"over", b"over"] {
+        assert_eq!(rt; came(rt.alloc(), &mut listener, number)?.bytes(), wanted);
+        number = 8;
+    }
+    assert_eq!(rt; listener.given.len(), 3);
+    assert_eq!(rt;
+        (listener.given[0].number, listener.given[2].number),
+        (7, 8)
+    );
+    assert_eq!(rt; listener.given[2].source.bytes(), b"two".as_slice());
+    Ok(())
+}
+
+/// A link that may go to another thread.
+fn sent<L: Link + Send>(link: L) -> L {
+    link
+}
+
+#[test]
+fn links_over_one_store_see_what_each_other_put(rt: HostRuntime) -> Result<(), Fail> {
+    let store = store(rt.alloc(), &[], &[])?;
+    let mut one = sent(SharedLink::new(&rt, rt.alloc(), store)?);
+    let mut other = one.again()?;
+    assert_eq!(rt; (step(&mut one, b'1'), got(&mut other)), (b'.', b'1'));
+    assert_eq!(rt; (step(&mut other, b'x'), got(&mut one)), (b'.', b'-'));
+    Ok(())
+}
+
+/// A world with two links and a listener, and the other parts of a bench.
+fn world(alloc: Global) -> Result<MemoryWorld<PlainStore>, AllocError> {
+    let input = MemoryConn::source(Text::of(alloc, b"in")?, 1, Vec::new(alloc));
+    let output = MemoryConn::sink(alloc, Vec::new(alloc));
+    let errors = MemoryConn::sink(alloc, Vec::new(alloc));
+    Ok(MemoryWorld::new(
+        alloc,
+        Vec::from_array(alloc, [PlainStore::new(alloc), PlainStore::new(alloc)])?,
+        Vec::from_array(alloc, [HandClock::new(alloc, 0, 0, false)])?,
+        Vec::from_array(alloc, [input])?,
+        Vec::from_array(alloc, [output, errors])?,
+        Vec::from_array(alloc, [listener(alloc, &[b"in"])?])?,
+        9,
+    ))
+}
+
+/// What a world was asked for, the oldest first: `b` is a bench, `d` a desk and `l` a listener.
+fn asked(alloc: Global, world: &MemoryWorld<PlainStore>) -> Result<Text, AllocError> {
+    let mut asks = Vec::new(alloc);
+    for ask in world.asks().unwrap_or_default() {
+        asks.push(match ask {
+            Ask::Bench { .. } => b'b',
+            Ask::Desk { .. } => b'd',
+            Ask::Listener { .. } => b'l',
+        })?;
+    }
+    Ok(Text::from_vec(asks))
+}
+
+#[test]
+fn a_world_hears_the_desk_and_the_listener_that_it_gave(rt: HostRuntime) -> Result<(), Fail> {
+    let mut world = world(rt.alloc())?;
+    let plan = StorePlan::Dir {
+        path: Text::of(rt.alloc(), b"disk")?,
+    };
+    let address = Text::of(rt.alloc(), b"10809")?;
+    let desk = world.desk(&plan).ok();
+    let listener = world.listener(&address, 0).ok();
+    assert!(rt; desk.is_some() && listener.is_some());
+    assert!(rt; matches!(world.desk(&plan), Err(MakeFault::Store)));
+    assert!(rt; matches!(world.listener(&address, 0), Err(MakeFault::Listen)));
+    world.hang_up(listener, desk);
+    assert_eq!(rt; asked(rt.alloc(), &world)?.bytes(), b"dldl".as_slice());
+    assert_eq!(rt; (world.heard.len(), world.token()), (1, 9));
+    let heard = world.heard.first().ok_or("nothing was heard")?;
+    assert!(rt; heard.listener.is_some() && heard.desk.is_some());
+    Ok(())
 }
 
 /// How many links a bench has, if it was made.
