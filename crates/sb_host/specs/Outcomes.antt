@@ -1,5 +1,5 @@
 -- What the adapters of the system decide of an outcome.
-use Rattle.std.specs.Prelude.{ℕ, ◌≡◌, ◌+◌, ◌-◌, ◌^◌, min, Bool, true, false, Result, Ok, Err, IsErr, Option, Some}
+use Rattle.std.specs.Prelude.{ℕ, zero, suc, ◌≡◌, ◌+◌, ◌-◌, ◌^◌, min, Bool, true, false, Result, Ok, Err, IsErr, Option, Some}
 use Rattle.std.specs.Prelude.{None, ℤ, pos, ◌<ℤ◌}
 use Rattle.std.specs.Fs.{file_type, IsFile}
 use Rattle.std.specs.declared.fs.attrs.Metadata.{Metadata}
@@ -47,6 +47,30 @@ IsSettled (Err error) place result = result ≡ Err (fault_of_kind (error_kind e
 abbrev pub fault_of_making : ErrorKind → MakeFault
 fault_of_making kind.OutOfMemory = make.Memory
 fault_of_making _ = make.Store
+
+-- why no listener was made, by a kind of error
+abbrev pub fault_of_listening : ErrorKind → MakeFault
+fault_of_listening kind.OutOfMemory = make.Memory
+fault_of_listening _ = make.Listen
+
+-- after an error of such a kind the same call may go well
+abbrev pub is_passing_kind : ErrorKind → Bool
+is_passing_kind kind.WouldBlock = true
+is_passing_kind kind.Interrupted = true
+is_passing_kind kind.ConnectionAborted = true
+is_passing_kind _ = false
+
+-- how many connections are accepted, where there is a limit: 0 is none
+abbrev pub limit_on : ℕ → Option ℕ
+limit_on zero = None
+limit_on (suc count) = Some (suc count)
+
+-- how many more are accepted behind an accept: one fewer where it gave a connection
+abbrev pub left_after : {T : Type 0} → Result (Option T) Error → Option ℕ → Option ℕ
+left_after outcome None = None
+left_after (Ok (Some connection)) (Some left) = Some (left - 1)
+left_after (Ok None) (Some left) = Some left
+left_after (Err error) (Some left) = Some left
 
 -- the moment so many seconds behind the begin of 1970, as far as an i64 goes; one before it where they can't be had
 abbrev pub IsMoment : Option ℕ → ℤ → Type 0

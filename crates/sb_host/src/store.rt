@@ -1,6 +1,6 @@
 //! The store of a plan.
 
-ghost use Rattle.std.specs.Prelude.{◌≡◌, ◌≢◌, ◌⊎◌, IfOk, Some};
+ghost use Rattle.std.specs.Prelude.{◌≡◌, ◌≢◌, ◌⊎◌, IfOk, Some, []};
 ghost use Rattle.sb_world.specs.Benches.{HasPauses};
 ghost use Rattle.sb_host.specs.Stores.{IsStoreOf, faults_of, log_of};
 
@@ -34,7 +34,8 @@ impl<W: Drop, F: Drop, C: Drop> Store<W, F, C> {
         second: C,
     ) -> Result<Store<W, F, C>, AllocError>
         requires { HasPauses (Some plan.now) }
-        ensures { IfOk result (IsStoreOf plan.now id.now key.now wire folder clock second) }
+        ensures store { IfOk result (IsStoreOf plan.now id.now key.now wire folder clock second) }
+        ensures unused { IfOk result (λ store. (log_of store ≡ []) × (faults_of store ≡ 0)) }
     {
         match plan {
             StorePlan::Dir { path: _ } => Ok(Store::Directory(DirLink::new(alloc, folder))),

@@ -1,13 +1,15 @@
 //! A directory of the file system, connections over TCP, and the clocks of a process.
 
 use crate::clock::moment_of;
+use crate::ending::Ending;
 use crate::folder::HostFolder;
+use crate::tcp::HostListener;
 use crate::wire::TcpWire;
 use crate::world::HostWorld;
-use sb_world::{Clock, FileGot, Folder, Page, Wire, WireFault, World};
+use sb_world::{Clock, FileGot, Folder, Listener, Page, Sink, Source, Wire, WireFault, World};
 use std::fs;
 use std::io::{Read, Write};
-use std::net::TcpListener;
+use std::net::{TcpListener, TcpStream};
 use std::test::Fail;
 
 #[test]
@@ -81,5 +83,24 @@ fn a_moment_that_cannot_be_had_is_before_1970(rt: HostRuntime) -> Result<(), Fai
     assert_eq!(rt; moment_of(None), -1);
     assert_eq!(rt; moment_of(Some(1_440_938_160)), 1_440_938_160);
     assert_eq!(rt; moment_of(Some(u64::MAX)), i64::MAX);
+    Ok(())
+}
+
+#[test]
+fn a_listener_gives_a_connection_as_often_as_it_may(rt: HostRuntime) -> Result<(), Fail> {
+    let mut listener = HostListener::bind(rt, ("127.0.0.1", 0), Ending { input: -1 }, 1)?;
+    let mut client = TcpStream::connect(&rt, listener.address()?)?;
+    let Ok(Some((mut source, mut sink))) = listener.accept() else {
+        return Err(Fail::from("no connection"));
+    };
+    client.write_all(b"asked")?;
+    let mut asked = [0; 8];
+    assert!(rt; source.read(&mut asked) == Ok(5));
+    assert!(rt; sink.write(b"answered").is_ok());
+    let mut answered = [0; 8];
+    client.read_exact(&mut answered)?;
+    assert!(rt; asked[..5] == b"asked"[..] && answered == *b"answered");
+    listener.back(source, sink, 1);
+    assert!(rt; listener.accept().is_ok_and(|found| found.is_none()));
     Ok(())
 }

@@ -1,19 +1,25 @@
 //! The world of a process, with buckets and directories as stores.
 
-ghost use Rattle.std.specs.Prelude.{◌≡◌, None, Some, IfOk, vec_len, false};
+ghost use Rattle.std.specs.Prelude.{◌≡◌, None, Some, [], IfOk, vec_len, false};
 ghost use Rattle.sb_world.specs.Benches.{HasPauses};
 ghost use Rattle.sb_world.specs.Told.{CountsJust};
-ghost use Rattle.sb_world.specs.Worlds.{make_failed, SaysLine};
-ghost use Rattle.sb_host.specs.Outcomes.{fault_of_making};
+ghost use Rattle.sb_world.specs.Worlds.{make_failed, HangsUp, SaysLine};
+ghost use Rattle.sb_host.specs.Outcomes.{fault_of_making, fault_of_listening};
+ghost use Rattle.sb_host.specs.Stores.{log_of, faults_of};
 
 use crate::clock::HostClock;
+use crate::ending::Ending;
 use crate::folder::HostFolder;
 use crate::store::Store;
 use crate::streams::{HostSink, HostSource};
+use crate::tcp::HostListener;
 use crate::wire::TcpWire;
-use sb_base::{Access, StorePlan, Text};
-use sb_world::{Bench, MakeFault, World};
+use sb_base::{Access, Geometry, StorePlan, Text};
+use sb_world::{Bench, Gate, MakeFault, World};
+use std::fmt::Write;
 use std::io::{self, Print};
+use std::process;
+use std::random::RandomSource;
 use std::rt::HostRuntime;
 use std::time::Instant;
 
@@ -26,7 +32,28 @@ pub struct HostWorld {
     rt: HostRuntime,
     /// When it was made: the readings of all its clocks count from here on.
     origin: Option<Instant>,
+    /// Whether standard input tells the end.
+    ending: Ending,
+    /// What listens for the clients, with its address as it was asked for.
+    bound: Option<Bound>,
     faults: u64,
+}
+
+/// A listener, of which each client has one of its own, and its address as it was asked for.
+#[derive(Drop)]
+struct Bound {
+    address: Text,
+    listener: HostListener,
+}
+
+/// Nothing stands round the store calls of workers.
+#[derive(Drop, Clone, Copy)]
+pub struct HostGate;
+
+impl Gate for HostGate {
+    fn before(&self, _worker: u32, _call: u64) {}
+
+    fn after(&self, _worker: u32, _call: u64) {}
 }
 
 impl HostWorld {
@@ -35,8 +62,42 @@ impl HostWorld {
         HostWorld {
             rt,
             origin: Instant::now(&rt).ok(),
+            ending: Ending::of_input(),
+            bound: None,
             faults: 0,
         }
+    }
+
+    /// A listener for one client. The address is bound where it isn't yet.
+    fn listen(&mut self, address: &Text, limit: u32) -> io::Result<HostListener>
+        ensures anew { IfOk result (λ listener. listener.faults ≡ 0) }
+        ensures counted { self.new.faults ≡ self.old.faults }
+    {
+        if let Some(bound) = &self.bound {
+            if bound.address.bytes() == address.bytes() {
+                return bound.listener.again(limit);
+            }
+        }
+        let listener = HostListener::bind(self.rt, host_and_port(address)?, self.ending, limit)?;
+        let client = listener.again(limit)?;
+        let address = address.copy(self.rt.alloc())?;
+        self.bound = Some(Bound { address, listener });
+        Ok(client)
+    }
+
+    /// The line that tells that a disk is served, and where.
+    fn serving_line(&self, geometry: &Geometry) -> Option<String> {
+        let address = self.bound.as_ref()?.listener.address().ok()?;
+        let mut line = String::new(self.rt.alloc());
+        writeln!(
+            line,
+            "s3backer: serving {} bytes in blocks of {} at {}",
+            geometry.size(),
+            geometry.block_size,
+            address
+        )
+        .ok()?;
+        Some(line)
     }
 
     /// So many links to a store.
@@ -67,6 +128,10 @@ impl World for HostWorld {
 
     type Sink = HostSink;
 
+    type Listener = HostListener;
+
+    type Gate = HostGate;
+
     ghost view = { world_view };
 
     fn bench(
@@ -91,6 +156,51 @@ impl World for HostWorld {
         ensures { world_view self.new ≡ world_view self.old }
     {}
 
+    fn desk(&mut self, store: &StorePlan) -> Result<(HostLink, HostClock), MakeFault> {
+        let fault = match open_link(self.rt, self.origin, store) {
+            Ok(link) => return Ok((link, HostClock::new(self.rt, self.origin))),
+            Err(error) => make_fault(error.kind()),
+        };
+        if fault == MakeFault::Store {
+            self.faults = self.faults.saturating_add(1);
+        }
+        Err(fault)
+    }
+
+    fn listener(&mut self, address: &Text, limit: u32) -> Result<HostListener, MakeFault> {
+        let fault = match self.listen(address, limit) {
+            Ok(listener) => return Ok(listener),
+            Err(error) => listen_fault(error.kind()),
+        };
+        if fault == MakeFault::Listen {
+            self.faults = self.faults.saturating_add(1);
+        }
+        Err(fault)
+    }
+
+    fn gate(&mut self) -> HostGate {
+        HostGate
+    }
+
+    fn serving(&mut self, geometry: &Geometry) {
+        if let Some(line) = self.serving_line(geometry) {
+            match self.rt.stderr().write_all(line.as_bytes()) {
+                Ok(()) | Err(_) => {}
+            }
+        }
+    }
+
+    fn token(&mut self) -> u32 {
+        random_token(&self.rt)
+    }
+
+    fn hang_up(&mut self, listener: Option<HostListener>, desk: Option<(HostLink, HostClock)>)
+        ensures { HangsUp (world_view self.old) (world_view self.new) listener desk }
+    {
+        drop(listener);
+        drop(desk);
+    }
+
     fn say(&mut self, line: &[u8])
         ensures { SaysLine (world_view self.old) (world_view self.new) line.now }
     {
@@ -107,6 +217,36 @@ fn make_fault(kind: io::ErrorKind) -> MakeFault
     match kind {
         io::ErrorKind::OutOfMemory => MakeFault::Memory,
         _ => MakeFault::Store,
+    }
+}
+
+/// Why no listener was made, by a kind of error.
+fn listen_fault(kind: io::ErrorKind) -> MakeFault
+    ensures { result ≡ fault_of_listening kind }
+{
+    match kind {
+        io::ErrorKind::OutOfMemory => MakeFault::Memory,
+        _ => MakeFault::Listen,
+    }
+}
+
+/// A number from the system's source of random ones, and this process's where that gives none.
+fn random_token(rt: &HostRuntime) -> u32 {
+    let mut bytes = [0; 4];
+    match rt.fill_bytes(&mut bytes) {
+        Ok(()) => u32::from_le_bytes(bytes),
+        Err(_) => process::id(rt.process()),
+    }
+}
+
+/// The host and the port of an address, which are apart by its last colon.
+fn host_and_port(address: &Text) -> io::Result<(&str, u16)> {
+    let (host, port) = as_text(address)?
+        .rsplit_once(':')
+        .ok_or(io::Error::from(io::ErrorKind::InvalidInput))?;
+    match port.parse() {
+        Ok(port) => Ok((host, port)),
+        Err(_) => Err(io::Error::from(io::ErrorKind::InvalidInput)),
     }
 }
 
@@ -130,6 +270,7 @@ fn open_links(
 /// A link to a store, with clocks whose readings count from an origin.
 fn open_link(rt: HostRuntime, origin: Option<Instant>, store: &StorePlan) -> io::Result<HostLink>
     requires { HasPauses (Some store.now) }
+    ensures { IfOk result (λ link. (log_of link ≡ []) × (faults_of link ≡ 0)) }
 {
     let (id, key) = access_of(store)?;
     let wire = open_wire(rt, store)?;
