@@ -42,7 +42,7 @@ fn twenty_four_threads_of_a_thousand_turns_end(rt: HostRuntime) -> Result<(), Fa
 #[test]
 fn a_waiter_is_woken_by_a_ring_and_not_before(rt: HostRuntime) -> Result<(), Fail> {
     let bell = Bell::new(rt.alloc())?;
-    let mark = bell.mark(&rt);
+    let mark = bell.mark();
     let start = Instant::now(&rt)?;
     let (waited, _) = thread::join(
         &rt,
@@ -64,7 +64,7 @@ fn a_waiter_is_woken_by_a_ring_and_not_before(rt: HostRuntime) -> Result<(), Fai
 #[test]
 fn a_ring_between_mark_and_wait_is_not_lost(rt: HostRuntime) -> Result<(), Fail> {
     let bell = Bell::new(rt.alloc())?;
-    let mark = bell.mark(&rt);
+    let mark = bell.mark();
     bell.ring(&rt);
     let start = Instant::now(&rt)?;
     bell.wait(&rt, mark, 30_000);
@@ -75,11 +75,11 @@ fn a_ring_between_mark_and_wait_is_not_lost(rt: HostRuntime) -> Result<(), Fail>
 #[test]
 fn a_wait_without_a_ring_lasts_its_time(rt: HostRuntime) -> Result<(), Fail> {
     let bell = Bell::new(rt.alloc())?;
-    let mark = bell.mark(&rt);
+    let mark = bell.mark();
     let start = Instant::now(&rt)?;
     bell.wait(&rt, mark, 100);
     assert!(rt; start.elapsed(&rt)? >= Duration::from_millis(100));
-    assert_eq!(rt; bell.mark(&rt), mark);
+    assert_eq!(rt; bell.mark(), mark);
     Ok(())
 }
 
@@ -87,7 +87,7 @@ fn a_wait_without_a_ring_lasts_its_time(rt: HostRuntime) -> Result<(), Fail> {
 fn a_ring_before_the_mark_wakes_nobody(rt: HostRuntime) -> Result<(), Fail> {
     let bell = Bell::new(rt.alloc())?;
     bell.ring(&rt);
-    let mark = bell.mark(&rt);
+    let mark = bell.mark();
     let start = Instant::now(&rt)?;
     bell.wait(&rt, mark, 100);
     assert!(rt; start.elapsed(&rt)? >= Duration::from_millis(100));
