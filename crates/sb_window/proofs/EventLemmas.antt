@@ -83,8 +83,8 @@ at_key puts block b put last P here there =
     (λ t. P (cond t (Some put) (get puts b)) (cond t (Some put) last)) [ true ↦ here | false ↦ there ])
 
 pub begin_represents : BeginRepresents
-begin_represents window past block before digest on le stands =
-    let put : LastPut = record { digest = digest; ending = None } in
+begin_represents window past block before on le stands =
+    let put : LastPut = record { ending = None } in
     let puts = kept_puts window.md5_time before window.puts in
     let left = purge_represents window past before le stands in
     let off : eqb window.md5_size 0 ≡ false = grind (arith, nat_tests) in
@@ -106,10 +106,10 @@ own_some held last old is (inr same) = sym same ∙ is
 
 -- the last put of any block after that of one ended
 ended_key : (block b : ℕ) (past : List PutEvent) (old : LastPut) (ending : Ending) → last_put_of past block ≡ Some old
-    → cond (eqb block b) (Some (record old { ending = Some ending })) (last_put_of past b)
+    → cond (eqb block b) (Some (record { ending = Some ending })) (last_put_of past b)
     ≡ last_put_of (End block ending ∷ past) b
 ended_key block b past old ending is =
-    let put : LastPut = record old { ending = Some ending } in
+    let put : LastPut = record { ending = Some ending } in
     let last = last_put_of past b in
     elim (eqb block b) as (λ t. eqb block b ≡ t → cond t (Some put) last ≡ cond t (end_put ending last) last) [
       | true ↦ λ t.
@@ -119,11 +119,11 @@ ended_key block b past old ending is =
     ] refl
 
 pub end_represents : EndRepresents
-end_represents window past block before ok le begun_open stands =
+end_represents window past block before ok digest le begun_open stands =
     let found = some_open (get window.puts block) begun_open in
     let last = own_some _ _ found.0 found.1 (stands.own block) in
-    let ending : Ending = record { reading = before; ok = ok } in
-    let put : LastPut = record { digest = found.0.digest; ending = Some ending } in
+    let ending : Ending = record { reading = before; ok = ok; digest = digest } in
+    let put : LastPut = record { ending = Some ending } in
     rw found.1
     (record {
       kept = λ b now later. subst
@@ -139,18 +139,18 @@ end_represents window past block before ok le begun_open stands =
     })
 
 -- nothing is expected of a put that is past its time
-past_expects : (time now : ℕ) (digest : List ℕ) (ending : Option Ending) → is_end_kept time now (end_of ending) ≡ false
-    → expected_after time now digest ending ≡ None
-past_expects time now digest None gone = absurd (cc)
-past_expects time now digest (Some ending) gone =
-    let expect : Expect = record { digest = digest; since = ending.reading } in
+past_expects : (time now : ℕ) (ending : Option Ending) → is_end_kept time now (end_of ending) ≡ false
+    → expected_after time now ending ≡ None
+past_expects time now None gone = absurd (cc)
+past_expects time now (Some ending) gone =
+    let expect : Expect = record { digest = ending.digest; since = ending.reading } in
     ap (λ t. cond (ending.ok && t) (Some expect) None) gone
     ∙ elim ending.ok as (λ ok. cond (ok && false) (Some expect) None ≡ None) [ true ↦ refl | false ↦ refl ]
 
 kept_expects : (time now : ℕ) (put : LastPut) (b : Bool) → is_kept time now put ≡ b
     → expected_by time now (cond b (Some put) None) ≡ expected_by time now (Some put)
 kept_expects time now put true is = refl
-kept_expects time now put false is = sym (past_expects time now put.digest put.ending is)
+kept_expects time now put false is = sym (past_expects time now put.ending is)
 
 kept_expected : (time now : ℕ) (last : Option LastPut)
     → expected_by time now (if_kept time now last) ≡ expected_by time now last
@@ -174,12 +174,12 @@ stays_by time now later expect ending le true false is = inl refl
 stays_by time now later expect ending le true true is =
     inr (rw (kept_before time now later (Some ending.reading) le is) refl)
 
-stays_after : (time now later : ℕ) (digest : List ℕ) (ending : Option Ending) → now ≤ later
-    → (expected_after time later digest ending ≡ None)
-    ⊎ (expected_after time later digest ending ≡ expected_after time now digest ending)
-stays_after time now later digest None le = inl refl
-stays_after time now later digest (Some ending) le =
-    stays_by time now later (record { digest = digest; since = ending.reading }) ending le ending.ok
+stays_after : (time now later : ℕ) (ending : Option Ending) → now ≤ later
+    → (expected_after time later ending ≡ None)
+    ⊎ (expected_after time later ending ≡ expected_after time now ending)
+stays_after time now later None le = inl refl
+stays_after time now later (Some ending) le =
+    stays_by time now later (record { digest = ending.digest; since = ending.reading }) ending le ending.ok
     (is_end_kept time later (Some ending.reading)) refl
 
 pub expectation_stays : ExpectationStays
@@ -187,7 +187,7 @@ expectation_stays window block now later le = by (get window.puts block) where
   by : (held : Option LastPut) → (expected_by window.md5_time later held ≡ None)
       ⊎ (expected_by window.md5_time later held ≡ expected_by window.md5_time now held)
   by None = inl refl
-  by (Some put) = stays_after window.md5_time now later put.digest put.ending le
+  by (Some put) = stays_after window.md5_time now later put.ending le
 
 spaced_end : (window : WindowState) (now : ℕ) (ending : Option Ending) → when_after window now ending ≡ Now
     → IsOver window.min_write_delay now ending

@@ -11,21 +11,21 @@ use Rattle.sb_window.specs.LastPuts.{if_kept}
 use Rattle.sb_window.specs.Windows.{WindowState, new_window, put_when, begun, ended, purged, is_open, expected}
 use Rattle.sb_window.specs.Windows.{expected_by}
 
--- the begin of a put of a block with its digest, and its end with its reading and outcome
+-- the begin of a put of a block, and its end with its reading, its outcome and its digest
 pub data PutEvent : Type 0 where
-  Begin : ℕ → List ℕ → PutEvent
+  Begin : ℕ → PutEvent
   End : ℕ → Ending → PutEvent
 
 -- a put after its end
 abbrev pub end_put : Ending → Option LastPut → Option LastPut
 end_put ending None = None
-end_put ending (Some put) = Some (record put { ending = Some ending })
+end_put ending (Some put) = Some (record { ending = Some ending })
 
 -- the last put of a block, the newest event first
 abbrev pub last_put_of : List PutEvent → ℕ → Option LastPut
 last_put_of [] block = None
-last_put_of (Begin other digest ∷ past) block =
-    if nat_eq other block then Some (record { digest = digest; ending = None }) else last_put_of past block
+last_put_of (Begin other ∷ past) block =
+    if nat_eq other block then Some (record { ending = None }) else last_put_of past block
 last_put_of (End other ending ∷ past) block =
     if nat_eq other block then end_put ending (last_put_of past block) else last_put_of past block
 
@@ -41,15 +41,15 @@ NewRepresents = (settings : Settings) → Represents (new_window settings) []
 
 abbrev pub BeginRepresents : Type 0
 BeginRepresents =
-    (window : WindowState) (past : List PutEvent) (block now : ℕ) (digest : List ℕ) → window.md5_size ≢ 0
-    → window.reading ≤ now → Represents window past
-    → Represents (begun window block now digest) (Begin block digest ∷ past)
+    (window : WindowState) (past : List PutEvent) (block now : ℕ) → window.md5_size ≢ 0
+    → window.reading ≤ now → Represents window past → Represents (begun window block now) (Begin block ∷ past)
 
 abbrev pub EndRepresents : Type 0
 EndRepresents =
-    (window : WindowState) (past : List PutEvent) (block now : ℕ) (ok : Bool) → window.reading ≤ now
-    → IsTrue (is_open (get window.puts block)) → Represents window past
-    → Represents (ended window block now ok) (End block (record { reading = now; ok = ok }) ∷ past)
+    (window : WindowState) (past : List PutEvent) (block now : ℕ) (ok : Bool) (digest : List ℕ)
+    → window.reading ≤ now → IsTrue (is_open (get window.puts block)) → Represents window past
+    → Represents (ended window block now ok digest)
+    (End block (record { reading = now; ok = ok; digest = digest }) ∷ past)
 
 abbrev pub PurgeRepresents : Type 0
 PurgeRepresents =

@@ -15,13 +15,12 @@ pub record Table : Type 0 where
 -- each of these is stored as the tuple of its parts
 abbrev pub ending_code : Coded Ending
 ending_code =
-    code_by (ℕ × Bool) (coded× coded_ℕ coded_bool) (λ e. (e.reading, e.ok)) (λ p. record { reading = p.0; ok = p.1 })
-    (λ _. refl)
+    code_by (ℕ × (Bool × List ℕ)) (coded× coded_ℕ (coded× coded_bool (coded_list coded_ℕ)))
+    (λ e. (e.reading, (e.ok, e.digest))) (λ p. record { reading = p.0; ok = p.1.0; digest = p.1.1 }) (λ _. refl)
 
 abbrev pub last_put_code : Coded LastPut
 last_put_code =
-    code_by (List ℕ × Option Ending) (coded× (coded_list coded_ℕ) (coded_option ending_code))
-    (λ e. (e.digest, e.ending)) (λ p. record { digest = p.0; ending = p.1 }) (λ _. refl)
+    code_by (Option Ending) (coded_option ending_code) (λ e. e.ending) (λ p. record { ending = p }) (λ _. refl)
 
 abbrev pub puts_code : Coded LastPuts
 puts_code = map.code coded_ℕ last_put_code

@@ -93,11 +93,11 @@ abbrev pub purged : WindowState → ℕ → WindowState
 purged window now = with_puts window now (kept_puts window.md5_time now window.puts)
 
 -- after a put of a block began: it is the block's last one. A window that is off has none
-abbrev pub begun : WindowState → ℕ → ℕ → List ℕ → WindowState
-begun window block now digest =
+abbrev pub begun : WindowState → ℕ → ℕ → WindowState
+begun window block now =
     let kept = kept_puts window.md5_time now window.puts in
     with_puts window now
-    (if nat_eq window.md5_size 0 then kept else insert kept block (record { digest = digest; ending = None }))
+    (if nat_eq window.md5_size 0 then kept else insert kept block (record { ending = None }))
 
 abbrev pub has_no_ending : Option Ending → Bool
 has_no_ending None = true
@@ -111,23 +111,24 @@ is_open (Some put) = has_no_ending put.ending
 -- the last puts after that of the block ended
 abbrev pub puts_ended : LastPuts → ℕ → Ending → Option LastPut → LastPuts
 puts_ended puts block ending None = puts
-puts_ended puts block ending (Some put) = insert puts block (record put { ending = Some ending })
+puts_ended puts block ending (Some put) = insert puts block (record { ending = Some ending })
 
--- after the put of a block ended, ok or not
-abbrev pub ended : WindowState → ℕ → ℕ → Bool → WindowState
-ended window block now ok =
-    with_puts window now (puts_ended window.puts block (record { reading = now; ok = ok }) (get window.puts block))
+-- after the put of a block ended, ok or not, with a content of this digest
+abbrev pub ended : WindowState → ℕ → ℕ → Bool → List ℕ → WindowState
+ended window block now ok digest =
+    with_puts window now
+    (puts_ended window.puts block (record { reading = now; ok = ok; digest = digest }) (get window.puts block))
 
 -- the digest of a put that ended so, if it ended ok and is kept
-abbrev pub expected_after : ℕ → ℕ → List ℕ → Option Ending → Option Expect
-expected_after time now digest None = None
-expected_after time now digest (Some ending) =
+abbrev pub expected_after : ℕ → ℕ → Option Ending → Option Expect
+expected_after time now None = None
+expected_after time now (Some ending) =
     if ending.ok && is_end_kept time now (Some ending.reading)
-    then Some (record { digest = digest; since = ending.reading }) else None
+    then Some (record { digest = ending.digest; since = ending.reading }) else None
 
 abbrev pub expected_by : ℕ → ℕ → Option LastPut → Option Expect
 expected_by time now None = None
-expected_by time now (Some put) = expected_after time now put.digest put.ending
+expected_by time now (Some put) = expected_after time now put.ending
 
 -- the digest that a GET of a block has to show, and since when: that of its last put, where that ended ok and is kept
 abbrev pub expected : WindowState → ℕ → ℕ → Option Expect

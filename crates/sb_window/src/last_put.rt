@@ -5,18 +5,18 @@ ghost use Rattle.sb_window.specs.LastPuts.{is_kept};
 
 use sb_base::Digest;
 
-/// How a put ended, and when.
+/// How a put ended, and when, and the MD5 of its content.
 #[derive(Drop, Clone, Copy, PartialEq, Eq, Debug)]
 pub struct Ending {
     /// The disk's clock, in milliseconds.
     pub reading: u64,
     pub ok: bool,
+    pub digest: Digest,
 }
 
-/// The last put of a block: the MD5 of its content, and how it ended, unless it is begun and not ended.
+/// The last put of a block: how it ended, unless it is begun and not ended.
 #[derive(Drop, Clone, Copy, PartialEq, Eq, Debug)]
 pub struct LastPut {
-    pub digest: Digest,
     pub ending: Option<Ending>,
 }
 

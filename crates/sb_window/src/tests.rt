@@ -42,7 +42,7 @@ fn begins(window: &mut Window, block: u8, now: u64) -> bool
 {
     let may = window.may_put(block as u32, now) == PutWhen::Now;
     if may {
-        window.begin_put(block as u32, now, [block; 16]);
+        window.begin_put(block as u32, now);
     }
     may
 }
@@ -56,8 +56,8 @@ fn puts(window: &mut Window, block: u8, begin: u64, end: u64, ok: bool) -> bool
 {
     let may = window.may_put(block as u32, begin) == PutWhen::Now;
     if may {
-        window.begin_put(block as u32, begin, [block; 16]);
-        window.end_put(block as u32, end, ok);
+        window.begin_put(block as u32, begin);
+        window.end_put(block as u32, end, ok, [block; 16]);
     }
     may
 }

@@ -134,12 +134,12 @@ impl Window {
         }
     }
 
-    /// A put of the block begins, with a content of this MD5.
-    pub fn begin_put(&mut self, block: u32, now: u64, digest: Digest)
+    /// A put of the block begins.
+    pub fn begin_put(&mut self, block: u32, now: u64)
         requires reading { self.old.reading ≤ now }
         requires limit { now ≤ 2 ^ 62 }
         requires ready { put_when self.old block now ≡ Now }
-        ensures begun { self.new ≡ begun self.old block now digest }
+        ensures begun { self.new ≡ begun self.old block now }
         ensures open { self.new.md5_size ≢ 0 → IsTrue (is_open (map.get self.new.puts block)) }
         ensures fits { map.len self.new.puts ≤ self.new.md5_size }
     {
@@ -147,21 +147,25 @@ impl Window {
         self.table.purge(self.md5_time, now);
         if self.table.room() != 0 {
             let ending = None;
-            self.table.set(block, LastPut { digest, ending });
+            self.table.set(block, LastPut { ending });
         }
     }
 
-    /// The put of the block ends, ok or not. An entry is kept as long after a failed end as after an ok one.
-    pub fn end_put(&mut self, block: u32, now: u64, ok: bool)
+    /// The put of the block ends, ok or not, with a content of this MD5. An entry is kept as long after a failed end as after an ok one.
+    pub fn end_put(&mut self, block: u32, now: u64, ok: bool, digest: Digest)
         requires reading { self.old.reading ≤ now }
         requires limit { now ≤ 2 ^ 62 }
         requires open { self.old.md5_size ≢ 0 → IsTrue (is_open (map.get self.old.puts block)) }
-        ensures { self.new ≡ ended self.old block now ok }
+        ensures { self.new ≡ ended self.old block now ok digest }
     {
         self.reading = now;
-        if let Some(put) = self.table.get(block) {
-            let ending = Some(Ending { reading: now, ok });
-            self.table.set(block, LastPut { ending, ..put });
+        if let Some(_put) = self.table.get(block) {
+            let ending = Some(Ending {
+                reading: now,
+                ok,
+                digest,
+            });
+            self.table.set(block, LastPut { ending });
         }
     }
 
@@ -174,10 +178,13 @@ impl Window {
     {
         let put = self.table.get(block)?;
         match put.ending {
-            Some(ending) if ending.ok && put.is_kept(self.md5_time, now) => Some(Expect {
-                digest: put.digest,
-                since: ending.reading,
-            }),
+            Some(ending) if ending.ok && put.is_kept(self.md5_time, now) => {
+                let digest = ending.digest;
+                Some(Expect {
+                    digest,
+                    since: ending.reading,
+                })
+            }
             _ => None,
         }
     }

@@ -7,7 +7,7 @@ pub set-requires : goal.set-requires
 set-requires c =
     record {
       fits =
-          held_stays c.self.inside.table c.args.block _ c.in-Some.put
+          held_stays c.self.inside.table c.args.block _ c.in-Some._put
           (sym c.get.ensures ∙ c.in-Some.is) c.self.invariant.fits;
     }
 
@@ -15,9 +15,9 @@ pub invariant_of-self : goal.invariant_of-self
 invariant_of-self c =
     let later = rw (← c.self.view_is) at c.requires.reading in
     let last : LastPut =
-    record { digest = c.in-Some.put.digest; ending = Some (record { reading = c.args.now; ok = c.args.ok }) } in
+    record { ending = Some (record { reading = c.args.now; ok = c.args.ok; digest = c.args.digest }) } in
     let fits =
-    held_stays c.self.inside.table c.args.block last c.in-Some.put
+    held_stays c.self.inside.table c.args.block last c.in-Some._put
     (sym c.get.ensures ∙ c.in-Some.is) c.self.invariant.fits in
     let shape =
     later_shape c.self.inside.reading c.args.now c.self.inside.table later c.requires.limit c.self.invariant in
