@@ -135,11 +135,11 @@ get_expects geometry settings window block now is off =
 
 -- after the begin of a PUT
 pub begun_is_window :
-    (geometry : Geometry) (settings : Settings) (window : WindowState) (block now : ℕ) (digest : List ℕ)
+    (geometry : Geometry) (settings : Settings) (window : WindowState) (block now : ℕ)
     → IsWindowOf geometry settings window → block < geometry.blocks
-    → len (begun window block now digest).puts ≤ window.md5_size
-    → IsWindowOf geometry settings (begun window block now digest)
-begun_is_window geometry settings window block now digest is on fits = record {
+    → len (begun window block now).puts ≤ window.md5_size
+    → IsWindowOf geometry settings (begun window block now)
+begun_is_window geometry settings window block now is on fits = record {
   delay = is.delay;
   time = is.time;
   size = is.size;
@@ -157,7 +157,7 @@ begun_is_window geometry settings window block now digest is on fits = record {
       (ap is_some (sym (get_kept window.md5_time now b window.puts)) ∙ some))
 
   set_on : (b : ℕ) (t : Bool) → eqb block b ≡ t
-      → is_some (cond t (Some (record { digest = digest; ending = None }))
+      → is_some (cond t (Some (record { ending = None }))
       (get (kept_puts window.md5_time now window.puts) b)) ≡ true → b < geometry.blocks
   set_on b true here some = let at = eqb-true block b here in omega (arith, at, on)
   set_on b false other some = kept_on b some
@@ -165,26 +165,26 @@ begun_is_window geometry settings window block now digest is on fits = record {
   by : (b : ℕ) (t : Bool)
       → is_some (get (if t then kept_puts window.md5_time now window.puts
       else insert (kept_puts window.md5_time now window.puts) block
-      (record { digest = digest; ending = None })) b) ≡ true
+      (record { ending = None })) b) ≡ true
       → b < geometry.blocks
   by b true some = kept_on b some
   by b false some =
       set_on b _ refl
       (sym (ap is_some (get-insert nat_cmp_total (kept_puts window.md5_time now window.puts) block
-      (record { digest = digest; ending = None }) b
-      ∙ ap (λ t. cond t (Some (record { digest = digest; ending = None }))
+      (record { ending = None }) b
+      ∙ ap (λ t. cond t (Some (record { ending = None }))
       (get (kept_puts window.md5_time now window.puts) b)) (same_key b block))) ∙ some)
 
 -- an open put is kept
 kept_open : (time now : ℕ) (held : Option LastPut) → is_open (if_kept time now held) ≡ is_open held
 kept_open time now None = refl
 kept_open time now (Some put) = by put.ending where
-  either : (t : Bool) (ending : Ending) → is_open (if t then Some (record put { ending = Some ending }) else None) ≡ false
+  either : (t : Bool) (ending : Ending) → is_open (if t then Some (record { ending = Some ending }) else None) ≡ false
   either true ending = refl
   either false ending = refl
 
   by : (ending : Option Ending)
-      → is_open (if_kept time now (Some (record put { ending = ending }))) ≡ is_open (Some (record put { ending = ending }))
+      → is_open (if_kept time now (Some (record { ending = ending }))) ≡ is_open (Some (record { ending = ending }))
   by None = refl
   by (Some ending) = either (is_end_kept time now (Some ending.reading)) ending
 
@@ -192,41 +192,41 @@ kept_open time now (Some put) = by put.ending where
 keys : (k b : ℕ) → nat_eq k b ≡ false → eqb k b ≡ false
 keys k b other = grind (arith, nat_tests)
 
-pub begun_opens : (m : CachedBlocks) (window : WindowState) (block now : ℕ) (digest : List ℕ) (entry : Cached)
+pub begun_opens : (m : CachedBlocks) (window : WindowState) (block now : ℕ) (entry : Cached)
     → is_some (put_by entry.state) ≡ true → OpensWith m window
-    → OpensWith (insert m block entry) (begun window block now digest)
-begun_opens m window block now digest entry opened is = record {
-  opened = λ on. inserted m block entry (λ b e. is_open (get (begun window block now digest).puts b) ≡ is_some (put_in e))
+    → OpensWith (insert m block entry) (begun window block now)
+begun_opens m window block now entry opened is = record {
+  opened = λ on. inserted m block entry (λ b e. is_open (get (begun window block now).puts b) ≡ is_some (put_in e))
       (here on (nat_eq window.md5_size 0) refl ∙ sym opened) (λ b other. there on b other (nat_eq window.md5_size 0) refl);
 } where
   here : window.md5_size ≢ 0 → (t : Bool) → nat_eq window.md5_size 0 ≡ t
       → is_open (get (if t then kept_puts window.md5_time now window.puts
-      else insert (kept_puts window.md5_time now window.puts) block (record { digest = digest; ending = None })) block)
+      else insert (kept_puts window.md5_time now window.puts) block (record { ending = None })) block)
       ≡ true
   here on true off = absurd (on (eqb-true window.md5_size 0 off))
   here on false off =
       ap is_open (get-insert nat_cmp_total (kept_puts window.md5_time now window.puts) block
-      (record { digest = digest; ending = None }) block
-      ∙ ap (λ t. cond t (Some (record { digest = digest; ending = None }))
+      (record { ending = None }) block
+      ∙ ap (λ t. cond t (Some (record { ending = None }))
       (get (kept_puts window.md5_time now window.puts) block)) (same_key block block ∙ eq-eqb block block refl))
 
   there : window.md5_size ≢ 0 → (b : ℕ) → nat_eq block b ≡ false → (t : Bool) → nat_eq window.md5_size 0 ≡ t
       → is_open (get (if t then kept_puts window.md5_time now window.puts
-      else insert (kept_puts window.md5_time now window.puts) block (record { digest = digest; ending = None })) b)
+      else insert (kept_puts window.md5_time now window.puts) block (record { ending = None })) b)
       ≡ is_some (put_in (get m b))
   there on b other true off = absurd (on (eqb-true window.md5_size 0 off))
   there on b other false off =
       ap is_open (get-insert nat_cmp_total (kept_puts window.md5_time now window.puts) block
-      (record { digest = digest; ending = None }) b
-      ∙ ap (λ t. cond t (Some (record { digest = digest; ending = None }))
+      (record { ending = None }) b
+      ∙ ap (λ t. cond t (Some (record { ending = None }))
       (get (kept_puts window.md5_time now window.puts) b)) (same_key b block ∙ keys block b other))
       ∙ ap is_open (get_kept window.md5_time now b window.puts)
       ∙ kept_open window.md5_time now (get window.puts b) ∙ is.opened on b
 
 -- after the end of a PUT
-pub ended_is_window : (geometry : Geometry) (settings : Settings) (window : WindowState) (block now : ℕ) (ok : Bool)
-    → IsWindowOf geometry settings window → IsWindowOf geometry settings (ended window block now ok)
-ended_is_window geometry settings window block now ok is = record {
+pub ended_is_window : (geometry : Geometry) (settings : Settings) (window : WindowState) (block now : ℕ) (ok : Bool) (digest : List ℕ)
+    → IsWindowOf geometry settings window → IsWindowOf geometry settings (ended window block now ok digest)
+ended_is_window geometry settings window block now ok digest is = record {
   delay = is.delay;
   time = is.time;
   size = is.size;
@@ -235,11 +235,11 @@ ended_is_window geometry settings window block now ok is = record {
   holds_each = is.holds_each;
 } where
   fits : (held : Option LastPut) → get window.puts block ≡ held
-      → len (puts_ended window.puts block (record { reading = now; ok = ok }) held) ≤ window.md5_size
+      → len (puts_ended window.puts block (record { reading = now; ok = ok; digest = digest }) held) ≤ window.md5_size
   fits None here = is.fits
   fits (Some old) here =
       held_stays (record { room = window.md5_size; puts = window.puts }) block
-      (record { digest = old.digest; ending = Some (record { reading = now; ok = ok }) }) old here is.fits
+      (record { ending = Some (record { reading = now; ok = ok; digest = digest }) }) old here is.fits
 
   set_on : (b : ℕ) (put old : LastPut) → get window.puts block ≡ Some old → (t : Bool) → eqb block b ≡ t
       → is_some (cond t (Some put) (get window.puts b)) ≡ true → b < geometry.blocks
@@ -250,22 +250,22 @@ ended_is_window geometry settings window block now ok is = record {
   set_on b put old here false other some = is.on_disk b some
 
   on_disk : (b : ℕ) (held : Option LastPut) → get window.puts block ≡ held
-      → is_some (get (puts_ended window.puts block (record { reading = now; ok = ok }) held) b) ≡ true
+      → is_some (get (puts_ended window.puts block (record { reading = now; ok = ok; digest = digest }) held) b) ≡ true
       → b < geometry.blocks
   on_disk b None here some = is.on_disk b some
   on_disk b (Some old) here some =
-      let put : LastPut = record { digest = old.digest; ending = Some (record { reading = now; ok = ok }) } in
+      let put : LastPut = record { ending = Some (record { reading = now; ok = ok; digest = digest }) } in
       set_on b put old here _ refl
       (sym (ap is_some (get-insert nat_cmp_total window.puts block put b
       ∙ ap (λ t. cond t (Some put) (get window.puts b)) (same_key b block))) ∙ some)
 
 -- a block's PUT that ends is not open, and no other changes
-pub ended_opens : (m : CachedBlocks) (window : WindowState) (block now : ℕ) (ok : Bool) (entry : Cached)
+pub ended_opens : (m : CachedBlocks) (window : WindowState) (block now : ℕ) (ok : Bool) (digest : List ℕ) (entry : Cached)
     → is_some (put_in (get m block)) ≡ true → is_some (put_by entry.state) ≡ false → OpensWith m window
-    → OpensWith (insert m block entry) (ended window block now ok)
-ended_opens m window block now ok entry opened closed is = record {
+    → OpensWith (insert m block entry) (ended window block now ok digest)
+ended_opens m window block now ok digest entry opened closed is = record {
   opened = λ on. inserted m block entry
-      (λ b e. is_open (get (puts_ended window.puts block (record { reading = now; ok = ok }) (get window.puts block)) b)
+      (λ b e. is_open (get (puts_ended window.puts block (record { reading = now; ok = ok; digest = digest }) (get window.puts block)) b)
       ≡ is_some (put_in e))
       (here on (get window.puts block) refl ∙ sym closed) (λ b other. there on b other (get window.puts block) refl);
 } where
@@ -273,20 +273,20 @@ ended_opens m window block now ok entry opened closed is = record {
   not_open held none opened = cc
 
   here : window.md5_size ≢ 0 → (held : Option LastPut) → get window.puts block ≡ held
-      → is_open (get (puts_ended window.puts block (record { reading = now; ok = ok }) held) block) ≡ false
+      → is_open (get (puts_ended window.puts block (record { reading = now; ok = ok; digest = digest }) held) block) ≡ false
   here on None at = absurd (not_open (get window.puts block) at (is.opened on block ∙ opened))
   here on (Some old) at =
-      let put : LastPut = record { digest = old.digest; ending = Some (record { reading = now; ok = ok }) } in
+      let put : LastPut = record { ending = Some (record { reading = now; ok = ok; digest = digest }) } in
       ap is_open (get-insert nat_cmp_total window.puts block put block
       ∙ ap (λ t. cond t (Some put) (get window.puts block)) (same_key block block ∙ eq-eqb block block refl))
 
   there : window.md5_size ≢ 0 → (b : ℕ) → nat_eq block b ≡ false → (held : Option LastPut)
       → get window.puts block ≡ held
-      → is_open (get (puts_ended window.puts block (record { reading = now; ok = ok }) held) b)
+      → is_open (get (puts_ended window.puts block (record { reading = now; ok = ok; digest = digest }) held) b)
       ≡ is_some (put_in (get m b))
   there on b other None at = is.opened on b
   there on b other (Some old) at =
-      let put : LastPut = record { digest = old.digest; ending = Some (record { reading = now; ok = ok }) } in
+      let put : LastPut = record { ending = Some (record { reading = now; ok = ok; digest = digest }) } in
       ap is_open (get-insert nat_cmp_total window.puts block put b
       ∙ ap (λ t. cond t (Some put) (get window.puts b)) (same_key b block ∙ keys block b other))
       ∙ is.opened on b

@@ -89,33 +89,33 @@ stale_window settings None (Some digest) (done.Stale expected shown) on is = abs
 stale_window settings (Some expect) digest (done.Stale expected shown) on is = on refl
 
 -- the block of which a PUT ends is idle
-pub end_idle : (old new : Core) (block : ℕ) (zeros ok : Bool) (put : OpenPut)
-    → put_in (get old.blocks.cached block) ≡ Some put → EndsWrite old new block zeros ok → IsIdleBut block old → IsIdle new
-end_idle old new block zeros ok put opened does idle =
+pub end_idle : (old new : Core) (block : ℕ) (zeros ok : Bool) (digest : List ℕ) (put : OpenPut)
+    → put_in (get old.blocks.cached block) ≡ Some put → EndsWrite old new block zeros ok digest → IsIdleBut block old → IsIdle new
+end_idle old new block zeros ok digest put opened does idle =
     let found = changed old.blocks new.blocks block (put_ended ok old.reading) (get old.blocks.cached block) does.blocks in
     subst (λ (c : CacheState). AllIdle c.cached) (sym found.2)
     (idle_set old.blocks.cached block (put_ended ok old.reading found.0)
     (ended_idle ok found.0.state old.reading put (sym (ap put_in found.1) ∙ opened)) idle)
 
-pub end_others : (old new : Core) (block : ℕ) (zeros ok : Bool) → EndsWrite old new block zeros ok → KeepsOthers block old new
-end_others old new block zeros ok does other apart =
+pub end_others : (old new : Core) (block : ℕ) (zeros ok : Bool) (digest : List ℕ) → EndsWrite old new block zeros ok digest → KeepsOthers block old new
+end_others old new block zeros ok digest does other apart =
     let found = changed old.blocks new.blocks block (put_ended ok old.reading) (get old.blocks.cached block) does.blocks in
     ap (λ (c : CacheState). get c.cached other) found.2
     ∙ get_other old.blocks.cached block other (put_ended ok old.reading found.0) apart
 
 -- each block is closer after one that ended ok, and after another its block is dirty
-pub end_closer : (old new : Core) (block : ℕ) (zeros ok : Bool) (put : OpenPut)
-    → put_in (get old.blocks.cached block) ≡ Some put → EndsWrite old new block zeros ok → ok ≡ true → IsCloser old new
-end_closer old new block zeros ok put opened does is b =
+pub end_closer : (old new : Core) (block : ℕ) (zeros ok : Bool) (digest : List ℕ) (put : OpenPut)
+    → put_in (get old.blocks.cached block) ≡ Some put → EndsWrite old new block zeros ok digest → ok ≡ true → IsCloser old new
+end_closer old new block zeros ok digest put opened does is b =
     let found = changed old.blocks new.blocks block (put_ended ok old.reading) (get old.blocks.cached block) does.blocks in
     let made = found.2
     ∙ ap (λ t. with_entry old.blocks block (put_ended t old.reading found.0)) is in
     subst (λ (c : CacheState). steps_left_in c b < steps_left_in old.blocks b) (sym made)
     (ended_closer old.blocks block old.reading put found.0 found.1 (sym (ap put_in found.1) ∙ opened) b)
 
-pub end_dirty : (old new : Core) (block : ℕ) (zeros ok : Bool) (put : OpenPut)
-    → put_in (get old.blocks.cached block) ≡ Some put → EndsWrite old new block zeros ok → ok ≡ false → IsDirty new block
-end_dirty old new block zeros ok put opened does is =
+pub end_dirty : (old new : Core) (block : ℕ) (zeros ok : Bool) (digest : List ℕ) (put : OpenPut)
+    → put_in (get old.blocks.cached block) ≡ Some put → EndsWrite old new block zeros ok digest → ok ≡ false → IsDirty new block
+end_dirty old new block zeros ok digest put opened does is =
     let found = changed old.blocks new.blocks block (put_ended ok old.reading) (get old.blocks.cached block) does.blocks in
     let made = found.2
     ∙ ap (λ t. with_entry old.blocks block (put_ended t old.reading found.0)) is in

@@ -52,7 +52,7 @@ module _ (old mid new : Core) (now place : ℕ) (ticks : Ticks old mid now place
     begun = leads.begun;
     closer = since_closer leads.closer;
     window = leads.window
-        ∙ ap (λ (w : WindowState). windows.begun w job.block new.reading (md5 out)) ticks.window;
+        ∙ ap (λ (w : WindowState). windows.begun w job.block new.reading) ticks.window;
     idle = λ idle. leads.idle (idle_since idle);
   }
 
@@ -84,7 +84,7 @@ module _ (old mid new : Core) (now place : ℕ) (ticks : Ticks old mid now place
 
   pub since_write : (pass block : ℕ) (out : List ℕ) (step : WriteStep) → WriteLeads mid new pass block out step
       → WriteLeads old new pass block out step
-  since_write pass block out write.Done leads = since_end leads
+  since_write pass block out (write.Done dirtied) leads = since_end leads
   since_write pass block out (write.Wait why) leads = since_wait None why leads
   since_write pass block out (write.Get job) leads = since_get pass block job leads
   since_write pass block out (write.Dropped dropped) leads = since_on block leads

@@ -39,6 +39,7 @@ pub mod CoverLemmas
 pub mod PutCauses
 pub mod ReadCauses
 pub mod WriteCauses
+pub mod Dirtying
 pub mod FlushCauses
 pub mod KeptPuts
 pub mod QuietEvents

@@ -22,14 +22,15 @@ use Rattle.sb_core.specs.declared.job.PutJob.{PutJob}
 use Rattle.sb_core.specs.declared.room.Room.{Room}
 use Rattle.sb_core.specs.declared.room.Room.TheVariants as room
 use Rattle.sb_core.specs.declared.step.WriteStep.{WriteStep}
+use Rattle.sb_core.specs.declared.step.WriteStep.TheVariants as write
 use Rattle.sb_core.specs.Represents.{nothing_found}
 use Rattle.sb_core.specs.Rules.{PutRule}
 use Rattle.sb_core.specs.Cores.{Represents, marks_of, put_block}
 use Rattle.sb_core.specs.Steps.{RoomRule}
 use Rattle.sb_core.specs.WriteSteps.{write_put, write_room}
-use Rattle.sb_core.specs.Writing.{is_too_dirty, PutAnswers, RoomAnswers, PartRule, WholeRule, MissingRule, UnheldRule}
+use Rattle.sb_core.specs.Writing.{is_too_dirty, IsDone, PutAnswers, RoomAnswers, PartRule, WholeRule, MissingRule, UnheldRule}
 use Rattle.sb_core.specs.Writing.{HeldRule, leaves_zeros, is_one_too_many, EntryRule, WriteRule}
-use Rattle.sb_core.specs.Causes.{IsAbsent, known_zero, keeps_zero, IsFilled, DirtiesOne, NeedsEntry, WritePuts, WriteCause}
+use Rattle.sb_core.specs.Causes.{IsAbsent, known_zero, keeps_zero, IsFilled, DirtiesOne, NeedsEntry, WritePuts, WriteDone, WriteCause}
 use Rattle.sb_core.specs.Causes.{WritesHaveCauses}
 use Rattle.sb_core.proofs.Counts.{occupied_is, clean_is, count_dirty, too_dirty}
 use Rattle.sb_blocks.specs.ZeroLaws.{zeros_around}
@@ -149,6 +150,13 @@ module _ (core : Core) (past : List Entry) (s : Represents core past) (now : ℕ
   made_so (room.Wait why) needs full rule =
       answer_so (inr (needs, lacks_victim core past s full rule.0)) (Err why) rule.1
 
+  done_so : (step : WriteStep) → IsDone step → WriteDone core.geometry core.settings past part bytes → Cause step
+  done_so (write.Done dirtied) is done = done
+  done_so (write.Wait why) is done = absurd is
+  done_so (write.Get job) is done = absurd is
+  done_so (write.Dropped block) is done = absurd is
+  done_so (write.Put job) is done = absurd is
+
   room_cause : (step : WriteStep) → NeedsEntry core.geometry past part bytes
       → nat_lt (len cached) core.blocks.room ≡ false → RoomAnswers core.window now cached step → Cause step
   room_cause step needs taken rule =
@@ -180,7 +188,7 @@ module _ (core : Core) (past : List Entry) (s : Represents core past) (now : ℕ
   whole_cause step true free dirty room_ needs fills rule =
       puts_cause step (inl ((inr fills, needs.1), dirty_true dirty)) rule
   whole_cause step false true dirty room_ needs fills rule =
-      subst Cause (sym rule) (
+      done_so step rule (
         inr (inl (fills, room_is core past s room_)),
         λ one too. dirty_false dirty too,
       )
@@ -200,7 +208,7 @@ module _ (core : Core) (past : List Entry) (s : Represents core past) (now : ℕ
       → UnheldRule core.window now core.settings core.blocks part.block keeps
       (known || nat_eq part.length core.blocks.geometry.block_size) step → Cause step
   unheld_cause step true keeps none rule =
-      subst Cause (sym rule) (
+      done_so step rule (
         inr (inr (absent_is core past s part.block none, keeps_missing none ∙ keeps)),
         λ one too. never_both (keeps_zero core.geometry past part bytes) one.1 (keeps_missing none ∙ keeps),
       )
@@ -239,7 +247,7 @@ module _ (core : Core) (past : List Entry) (s : Represents core past) (now : ℕ
         dirty_true limit.0,
       )) rule
   held_cause step entry false too held is rule =
-      subst Cause (sym rule) (
+      done_so step rule (
         inl (cached_is core past s part.block (ap (passes is_held) is ∙ held)),
         λ one dirty. never one.0 (sym (keeps_held entry is held) ∙ one.1) dirty,
       ) where

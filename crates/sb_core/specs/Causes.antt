@@ -200,7 +200,7 @@ WriteDone geometry settings past part bytes =
 
 -- why a write of bytes to a part is answered so
 abbrev pub WriteCause : Geometry → Settings → List Entry → ℕ → Part → List ℕ → WriteStep → Type 0
-WriteCause geometry settings past now part bytes write.Done = WriteDone geometry settings past part bytes
+WriteCause geometry settings past now part bytes (write.Done dirtied) = WriteDone geometry settings past part bytes
 WriteCause geometry settings past now part bytes (write.Wait why) =
     WriteWaits geometry settings past now part bytes why
 WriteCause geometry settings past now part bytes (write.Get job) =

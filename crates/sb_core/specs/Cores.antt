@@ -1,7 +1,6 @@
 -- Which histories a core represents, and what its own functions do to it.
 use Rattle.std.specs.Prelude.{ℕ, ◌≡◌, ◌≤◌, Bool, List, ◌∷◌, Option, None, max, IsSome, Result, Ok, Err}
 use Rattle.std.specs.FinMap.{get}
-use Rattle.md5.specs.Md5.{md5}
 use Rattle.sb_base.specs.declared.geometry.Geometry.{Geometry}
 use Rattle.sb_base.specs.declared.settings.Settings.{Settings}
 use Rattle.sb_base.specs.declared.part.Part.{Part}
@@ -24,6 +23,7 @@ use Rattle.sb_core.specs.declared.machine.Core.{Core}
 use Rattle.sb_core.specs.declared.job.GetJob.{GetJob}
 use Rattle.sb_core.specs.declared.job.PutJob.{PutJob}
 use Rattle.sb_core.specs.Represents.{RepresentsBy, next_place}
+use Rattle.sb_core.specs.PutWindow.{IsPutDigest}
 use Rattle.sb_core.specs.Marking.{SetsMark, begun_mark, shown_mark, ended_mark}
 
 -- which blocks the core knows to be zeros
@@ -78,6 +78,12 @@ abbrev pub AddsAfterFlush : ℕ → Core → Core → Entry → Type 0
 AddsAfterFlush mark old new entry =
     (past : List Entry) → IsSome (flush_place past mark) → Represents old past → Represents new (entry ∷ past)
 
+-- and in which the block's newest put has a content of this digest, where the window is on
+abbrev pub AddsAfterPut : List ℕ → ℕ → Core → Core → Entry → Type 0
+AddsAfterPut digest block old new entry =
+    (past : List Entry) → IsPutDigest old.settings past block digest → Represents old past
+    → Represents new (entry ∷ past)
+
 -- what workers are told by stays: whether the disk was closed, and the mark of the last flush that has begun
 pub record KeepsSignals (old new : Core) : Type 0 where
   pub closed : closed_of new ≡ closed_of old
@@ -129,7 +135,7 @@ pub record StartsPut (old new : Core) (pass block : ℕ) (out : List ℕ) (job :
   pub ready : put_when old.window block old.reading ≡ Now
   pub blocks : Changes old.blocks new.blocks block (put_begun pass) (get old.blocks.cached block)
   pub marks : SetsMark (marks_of old) (marks_of new) block (begun_mark (is_zeros out) (marks_of old block))
-  pub window : new.window ≡ begun old.window block old.reading (md5 out)
+  pub window : new.window ≡ begun old.window block old.reading
   pub rest : KeepsRest old new
 
 -- a PUT begins, or one has to wait and nothing changes
@@ -180,9 +186,9 @@ pub record LosesBlock (old new : Core) (block : ℕ) : Type 0 where
   pub window : new.window ≡ old.window
   pub rest : KeepsRest old new
 
--- the PUT of the block ends, of zeros or not, ok or not, and the window keeps that
-pub record EndsWrite (old new : Core) (block : ℕ) (zeros ok : Bool) : Type 0 where
+-- the PUT of the block ends, of zeros or not, ok or not, and the window keeps that with its digest
+pub record EndsWrite (old new : Core) (block : ℕ) (zeros ok : Bool) (digest : List ℕ) : Type 0 where
   pub blocks : Changes old.blocks new.blocks block (put_ended ok old.reading) (get old.blocks.cached block)
   pub marks : SetsMark (marks_of old) (marks_of new) block (ended_mark zeros ok (marks_of old block))
-  pub window : new.window ≡ ended old.window block old.reading ok
+  pub window : new.window ≡ ended old.window block old.reading ok digest
   pub rest : KeepsRest old new

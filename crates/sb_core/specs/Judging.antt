@@ -1,8 +1,11 @@
 -- What becomes of an answer to a GET.
 use Rattle.std.specs.Prelude.{◌≢◌, Bool, true, false, if◌then◌else◌, ℕ, List, Option, Some, None}
 use Rattle.std.specs.Str.{bytes_eq}
+use Rattle.md5.specs.Md5.{md5}
 use Rattle.sb_base.specs.declared.settings.Settings.{Settings}
 use Rattle.sb_base.specs.declared.line.Expect.{Expect}
+use Rattle.sb_base.specs.declared.entry.Shown.{Shown}
+use Rattle.sb_base.specs.declared.entry.Shown.TheVariants as shown
 use Rattle.sb_core.specs.declared.step.GetDone.{GetDone}
 use Rattle.sb_core.specs.declared.step.GetDone.TheVariants as done
 
@@ -13,6 +16,14 @@ judged expect None = done.Failed
 judged None (Some digest) = done.Taken
 judged (Some expect) (Some digest) =
     if bytes_eq digest expect.digest then done.Taken else done.Stale expect.digest digest
+
+-- the digest of an answer that has to be known: that of bytes, where the GET has to show one
+abbrev pub digest_wanted : Option Expect → Shown → Option (List ℕ)
+digest_wanted None answer = None
+digest_wanted (Some expect) shown.Absent = None
+digest_wanted (Some expect) (shown.Bytes bytes) = Some (md5 bytes)
+digest_wanted (Some expect) shown.Same = None
+digest_wanted (Some expect) shown.Failed = None
 
 -- the answer to a GET is taken
 abbrev pub is_taken : GetDone → Bool

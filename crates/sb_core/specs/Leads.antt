@@ -3,7 +3,6 @@ use Rattle.std.specs.Prelude.{ℕ, ◌≡◌, ◌≢◌, ◌<◌, ◌≤◌, Boo
 use Rattle.std.specs.Prelude.{Result, Ok, Err, if◌then◌else◌}
 use Rattle.std.proofs.Common.{ap, ◌∙◌}
 use Rattle.std.specs.FinMap.{get, entries}
-use Rattle.md5.specs.Md5.{md5}
 use Rattle.sb_base.specs.declared.line.Why.{Why}
 use Rattle.sb_base.specs.declared.line.Why.TheVariants.{Busy, Spaced, WindowFull, NoRoom}
 use Rattle.sb_window.specs.Windows as windows
@@ -114,7 +113,7 @@ pub record LeadsToGet (old new : Core) (pass block : ℕ) (job : GetJob) : Type 
 pub record LeadsToPut (old new : Core) (pass : ℕ) (out : List ℕ) (job : PutJob) : Type 0 where
   pub begun : HasPut new pass job
   pub closer : IsCloser old new
-  pub window : new.window ≡ windows.begun old.window job.block new.reading (md5 out)
+  pub window : new.window ≡ windows.begun old.window job.block new.reading
   pub idle : IsIdle old → IsIdleBut job.block new
 
 -- a block left the cache, and this one is closer
@@ -179,7 +178,7 @@ ReadLeads old new pass block space (read.Put job) = LeadsToPut old new pass spac
 
 -- where an answer to a write leads
 abbrev pub WriteLeads : Core → Core → ℕ → ℕ → List ℕ → WriteStep → Type 0
-WriteLeads old new pass block out write.Done = LeadsToEnd old new
+WriteLeads old new pass block out (write.Done dirtied) = LeadsToEnd old new
 WriteLeads old new pass block out (write.Wait why) = LeadsToWait None old new why
 WriteLeads old new pass block out (write.Get job) = LeadsToGet old new pass block job
 WriteLeads old new pass block out (write.Dropped dropped) = LeadsOn old new block

@@ -20,7 +20,8 @@ use Rattle.sb_core.specs.declared.step.FlushStep.{FlushStep}
 use Rattle.sb_core.specs.declared.step.FlushStep.TheVariants as flush
 use Rattle.sb_core.specs.declared.step.GetDone.{GetDone}
 use Rattle.sb_core.specs.Opening.{known_entry, opening}
-use Rattle.sb_core.specs.Cores.{marks_of, closed_of, last_mark_of, Represents, Adds, AddsAfterFlush, KeepsSignals}
+use Rattle.sb_core.specs.Cores.{marks_of, closed_of, last_mark_of, Represents, Adds, AddsAfterPut, AddsAfterFlush, KeepsSignals}
+use Rattle.sb_core.specs.PutWindow.{IsPutDigest}
 use Rattle.sb_core.specs.Steps.{read_kind, read_entry, get_end_entry, put_end_entry}
 use Rattle.sb_core.specs.Writing.{write_kind, write_entry}
 use Rattle.sb_core.specs.Flushing.{flush_begin_entry, flush_kind, flush_step_entry}
@@ -134,14 +135,14 @@ write_stands old new pass reading part bytes out step keeps adds past stands =
     (quiet old new (write_kind part bytes out step) keeps (closes step) (marks step)) (adds past stands.represents) stands
   where
     closes : (of : WriteStep) (before : Bool) → closed_after (write_kind part bytes out of) before ≡ before
-    closes write.Done before = refl
+    closes (write.Done dirtied) before = refl
     closes (write.Wait why) before = refl
     closes (write.Get job) before = refl
     closes (write.Dropped block) before = refl
     closes (write.Put job) before = refl
 
     marks : (of : WriteStep) (before : Option ℕ) → last_mark_after (write_kind part bytes out of) before ≡ before
-    marks write.Done before = refl
+    marks (write.Done dirtied) before = refl
     marks (write.Wait why) before = refl
     marks (write.Get job) before = refl
     marks (write.Dropped block) before = refl
@@ -154,11 +155,14 @@ get_end_stands old new pass reading job answer outcome keeps adds past stands =
     stands_after old new past (get_end_entry pass reading job answer outcome)
     (record { closed = keeps.closed; last_mark = keeps.last_mark }) (adds past stands.represents) stands
 
-pub put_end_stands : (old new : Core) (pass reading : ℕ) (job : PutJob) (ok : Bool) → KeepsSignals old new
-    → Adds old new (put_end_entry pass reading job ok) → StandsOn old new (put_end_entry pass reading job ok)
-put_end_stands old new pass reading job ok keeps adds past stands =
+-- a PUT ends where the digest is that of its content
+pub put_end_stands : (old new : Core) (pass reading : ℕ) (job : PutJob) (ok : Bool) (digest : List ℕ)
+    → KeepsSignals old new → AddsAfterPut digest job.block old new (put_end_entry pass reading job ok)
+    → (past : List Entry) → IsPutDigest old.settings past job.block digest → StandsFor old past
+    → StandsFor new (put_end_entry pass reading job ok ∷ past)
+put_end_stands old new pass reading job ok digest keeps adds past is stands =
     stands_after old new past (put_end_entry pass reading job ok)
-    (record { closed = keeps.closed; last_mark = keeps.last_mark }) (adds past stands.represents) stands
+    (record { closed = keeps.closed; last_mark = keeps.last_mark }) (adds past is stands.represents) stands
 
 -- a step of a flush goes on where the flush has begun
 pub flush_step_stands : (old new : Core) (pass reading mark : ℕ) (out : List ℕ) (step : FlushStep)

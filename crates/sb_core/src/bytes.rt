@@ -1,9 +1,11 @@
-//! The bytes of a write.
+//! Bytes of parts and blocks.
 
 ghost use Rattle.std.specs.Prelude.{◌≡◌, length};
+ghost use Rattle.md5.specs.Md5.{md5};
 ghost use Rattle.sb_history.specs.Contents.{zeros, is_zeros};
 
-use sb_base::Part;
+use md5::Md5;
+use sb_base::{Digest, Part};
 
 /// What a write writes to its part.
 #[derive(Drop, Clone, Copy)]
@@ -32,6 +34,13 @@ pub(crate) fn is_zeros(bytes: &[u8]) -> bool
     ensures { result ≡ is_zeros bytes.now }
 {
     bytes.iter().all(|byte| *byte == 0)
+}
+
+/// The MD5 of a content.
+pub(crate) fn digest_of(content: &[u8]) -> Digest
+    ensures { result ≡ md5 content.now }
+{
+    <Md5 as md5::Digest>::digest(content)
 }
 
 /// Makes all bytes zeros.

@@ -20,6 +20,7 @@ pub use laws::{
     flushes_have_causes, get_undone, jobs_have_causes, reads_have_causes, writes_have_causes,
 };
 pub use machine::Core;
+pub use puts::put_digest;
 pub use standing::{Fixed, Timed};
 pub use step::{FlushStep, GetDone, JobStep, ReadStep, WriteStep};
 

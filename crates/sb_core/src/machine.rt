@@ -10,7 +10,7 @@ ghost use Rattle.sb_zero.specs.Sets.{blocks_of, is_marked};
 ghost use Rattle.sb_core.specs.PutWindow.{IsWindowOf, OpensWith};
 ghost use Rattle.sb_core.specs.Fitting.{IsCacheOf, ExpectsNone};
 
-use md5::Md5;
+use crate::bytes::digest_of;
 use sb_base::{Digest, Geometry, Settings};
 use sb_blocks::Blocks;
 use sb_window::Window;
@@ -52,11 +52,7 @@ pub struct Core {
 pub(crate) fn digest_if(wanted: bool, content: &[u8]) -> Digest
     ensures { IsTrue wanted → result ≡ md5 content.now }
 {
-    if wanted {
-        <Md5 as md5::Digest>::digest(content)
-    } else {
-        [0; 16]
-    }
+    if wanted { digest_of(content) } else { [0; 16] }
 }
 
 impl Core {

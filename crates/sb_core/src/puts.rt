@@ -5,17 +5,18 @@ ghost use Rattle.std.specs.FinMap.{get};
 ghost use Rattle.sb_window.specs.declared.window.PutWhen.TheVariants.{Now};
 ghost use Rattle.sb_window.specs.Windows.{put_when, ended};
 ghost use Rattle.sb_blocks.specs.Cached.{put_in, stamp_in, passes, is_dirty};
+ghost use Rattle.sb_core.specs.PutWindow.{IsDigestOf};
 ghost use Rattle.sb_core.specs.Rules.{is_covered, PutRule};
 ghost use Rattle.sb_core.specs.Searches.{covers_in, sooner};
 
 use crate::job::PutJob;
 use crate::machine::{Core, digest_if};
 use crate::marks;
-use sb_base::Why;
+use sb_base::{Digest, Settings, Why};
 use sb_window::PutWhen;
 
 impl Core {
-    ghost use Rattle.sb_core.specs.Cores.{StartsPut, PutsNext, put_block, window_of, reading_of, reading_at, Adds, KeepsSignals, EndsWrite};
+    ghost use Rattle.sb_core.specs.Cores.{StartsPut, PutsNext, put_block, window_of, reading_of, reading_at, AddsAfterPut, KeepsSignals, EndsWrite};
     ghost use Rattle.sb_core.specs.Steps.{HasPut, put_end_entry};
     ghost use Rattle.sb_core.specs.Requests.{SameBase, PutOpens};
     ghost use Rattle.sb_core.specs.Leads.{IsIdle, IsIdleBut, IsCloser, IsDirty, KeepsOpen, KeepsOthers, PutLeads};
@@ -51,8 +52,7 @@ impl Core {
     {
         let zeros = self.blocks.begin_write(block, pass, out);
         marks::put_begins(&mut self.marks, block, zeros);
-        let digest = digest_if(self.settings.md5_size != 0, out);
-        self.window.begin_put(block, self.reading, digest);
+        self.window.begin_put(block, self.reading);
         PutJob { block, zeros }
     }
 
@@ -95,34 +95,43 @@ impl Core {
         }
     }
 
-    /// Ends a PUT, ok or not.
-    pub fn put_end(&mut self, now: u64, pass: u64, job: PutJob, ok: bool)
+    /// Ends a PUT, ok or not. The clause speaks of histories in which `digest` is that of its content, where the window
+    /// is on; no hash is computed here.
+    pub fn put_end(&mut self, now: u64, pass: u64, job: PutJob, ok: bool, digest: Digest)
         requires now { now ≤ 2 ^ 62 }
         requires job { HasPut self.old pass job }
-        ensures represents { Adds self.old self.new (put_end_entry pass (reading_at now self.old) job ok) }
+        ensures represents { AddsAfterPut digest job.block self.old self.new
+            (put_end_entry pass (reading_at now self.old) job ok) }
         ensures idle { IsIdleBut job.block self.old → IsIdle self.new }
         ensures closer { ok ≡ true → IsCloser self.old self.new }
         ensures dirty { ok ≡ false → IsDirty self.new job.block }
         ensures others { KeepsOthers job.block self.old self.new }
-        ensures window { window_of self.new ≡ ended (window_of self.old) job.block (reading_at now self.old) ok }
+        ensures window { window_of self.new ≡ ended (window_of self.old) job.block (reading_at now self.old) ok digest }
         ensures base { SameBase self.old self.new }
         ensures reading { reading_of self.new ≡ reading_at now self.old }
         ensures signals { KeepsSignals self.old self.new }
     {
         let PutJob { block, zeros } = job;
         let _place = self.tick(now);
-        self.end_put(block, zeros, ok);
+        self.end_put(block, zeros, ok, digest);
     }
 
     /// The PUT of a block ends, of zeros or not.
-    fn end_put(&mut self, block: u32, zeros: bool, ok: bool)
+    fn end_put(&mut self, block: u32, zeros: bool, ok: bool, digest: Digest)
         requires open { is_some (put_in (get self.old.blocks.cached block)) ≡ true }
-        ensures { EndsWrite self.old self.new block zeros ok }
+        ensures { EndsWrite self.old self.new block zeros ok digest }
     {
         marks::put_ends(&mut self.marks, block, zeros, ok);
         self.blocks.end_write(block, self.reading, ok);
-        self.window.end_put(block, self.reading, ok);
+        self.window.end_put(block, self.reading, ok, digest);
     }
+}
+
+/// The MD5 that `put_end` needs, of the content that was put: where the window is on. It isn't computed elsewhere.
+pub fn put_digest(settings: &Settings, content: &[u8]) -> Digest
+    ensures { IsDigestOf settings.now content.now result }
+{
+    digest_if(settings.md5_size != 0, content)
 }
 
 /// What is waited for, with another wait that comes behind it in the order of the dirty blocks.

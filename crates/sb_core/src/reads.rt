@@ -7,12 +7,12 @@ ghost use Rattle.sb_history.specs.Cache.{answer_content};
 ghost use Rattle.sb_history.specs.Window.{answer_digest};
 ghost use Rattle.sb_blocks.specs.Cached.{passes, is_held, get_in};
 ghost use Rattle.sb_blocks.specs.Moves.{ShowsContent};
-ghost use Rattle.sb_core.specs.Judging.{judged, IsStaleByWindow};
+ghost use Rattle.sb_core.specs.Judging.{judged, digest_wanted, IsStaleByWindow};
 ghost use Rattle.sb_base.specs.Ranges.{IsPart};
 
 use crate::bytes::fill_zeros;
 use crate::job::GetJob;
-use crate::machine::{Core, digest_if};
+use crate::machine::Core;
 use crate::marks;
 use crate::room::Room;
 use crate::step::{GetDone, ReadStep};
@@ -73,11 +73,19 @@ impl Core {
     }
 
     /// Gives the answer to a GET. Bytes are one block long. The block is held where the answer has the digest that the
-    /// GET has to show, if there is one.
-    pub fn get_end(&mut self, now: u64, pass: u64, job: GetJob, answer: Answer<'_>) -> GetDone
+    /// GET has to show, if there is one. No hash is computed here: `digest` is that of `GetJob::digest_of`.
+    pub fn get_end(
+        &mut self,
+        now: u64,
+        pass: u64,
+        job: GetJob,
+        answer: Answer<'_>,
+        digest: Option<Digest>,
+    ) -> GetDone
         requires now { now ≤ 2 ^ 62 }
         requires job { HasGet self.old pass job }
         requires answer { ShownFits (geometry_of self.old).block_size job.verify (shown_of answer) }
+        requires digest { digest ≡ digest_wanted job.expect (shown_of answer) }
         ensures represents { Adds self.old self.new
             (get_end_entry pass (reading_at now self.old) job (shown_of answer.entry) result) }
         ensures answer { result ≡ get_end_answer (geometry_of self.old).block_size job (shown_of answer.entry) }
@@ -98,7 +106,7 @@ impl Core {
             begun: _,
         } = job;
         let place = self.tick(now);
-        let outcome = self.judge(expect, &answer);
+        let outcome = self.judge(expect, &answer, digest);
         self.take(place, block, answer, outcome.is_taken());
         outcome
     }
@@ -115,14 +123,18 @@ impl Core {
             .end_read(self.reading, place, block, answer, taken);
     }
 
-    /// What becomes of the answer to a GET that has to show this digest. An MD5 is computed only where there is one.
-    fn judge(&self, expect: Option<Expect>, answer: &Answer<'_>) -> GetDone
-        requires { is_some expect ≡ true → self.now.settings.md5_size ≢ 0 }
+    /// What becomes of the answer to a GET that has to show this digest, where its bytes have that one.
+    fn judge(&self, expect: Option<Expect>, answer: &Answer<'_>, digest: Option<Digest>) -> GetDone
+        requires on { is_some expect ≡ true → self.now.settings.md5_size ≢ 0 }
+        requires digest { digest ≡ digest_wanted expect (shown_of answer.now) }
         ensures { result ≡ judged expect (answer_digest self.now.geometry.block_size None (shown_of answer.now)) }
     {
         match answer {
             Answer::Absent => compare(expect, self.absent),
-            Answer::Bytes(bytes) => compare(expect, digest_if(expect.is_some(), bytes)),
+            Answer::Bytes(_) => match digest {
+                Some(shown) => compare(expect, shown),
+                None => GetDone::Taken,
+            },
             Answer::Same | Answer::Failed => GetDone::Failed,
         }
     }

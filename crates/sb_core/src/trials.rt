@@ -2,9 +2,10 @@
 
 ghost use Rattle.std.specs.Prelude.{◌≡◌, ◌<◌, ◌≤◌, ◌^◌, IfOk, Some, None, length};
 ghost use Rattle.sb_base.specs.Ranges.{IsPart};
+ghost use Rattle.sb_base.specs.Lines.{shown_of};
 ghost use Rattle.sb_zero.specs.Sets.{blocks_of};
 ghost use Rattle.sb_core.specs.Cores.{geometry_of};
-ghost use Rattle.sb_core.specs.Steps.{HasGet};
+ghost use Rattle.sb_core.specs.Steps.{HasGet, ShownFits};
 ghost use Rattle.sb_core.specs.Trials.{KeepsPut};
 
 use crate::job::{GetJob, PutJob};
@@ -127,10 +128,21 @@ fn gets(core: &mut Core, opened: &mut Opened, now: u64, job: GetJob) -> Seen
     *opened = None;
     let block = job.block();
     if block < STORED {
-        return Seen::Got(block, core.get_end(now, 1, job, Answer::Absent));
+        return Seen::Got(block, answers(core, now, job, Answer::Absent));
     }
     let stored = [67; 512];
-    Seen::Got(block, core.get_end(now, 1, job, Answer::Bytes(&stored)))
+    Seen::Got(block, answers(core, now, job, Answer::Bytes(&stored)))
+}
+
+fn answers(core: &mut Core, now: u64, job: GetJob, answer: Answer<'_>) -> GetDone
+    requires disk { geometry_of core.old ≡ GEOMETRY }
+    requires now { now ≤ 2 ^ 62 }
+    requires job { HasGet core.old 1 job }
+    requires answer { ShownFits 512 job.verify (shown_of answer) }
+    ensures disk { geometry_of core.new ≡ GEOMETRY }
+{
+    let digest = job.digest_of(&answer);
+    core.get_end(now, 1, job, answer, digest)
 }
 
 fn writes(core: &mut Core, opened: &mut Opened, now: u64, part: Part, bytes: &[u8]) -> Seen
@@ -144,7 +156,7 @@ fn writes(core: &mut Core, opened: &mut Opened, now: u64, part: Part, bytes: &[u
 {
     let mut out = [0; 512];
     match core.write(now, 1, part, bytes, &mut out) {
-        WriteStep::Done => Seen::Done,
+        WriteStep::Done { dirtied: _ } => Seen::Done,
         WriteStep::Wait(why) => Seen::Waits(why),
         WriteStep::Get(job) => gets(core, opened, now, job),
         WriteStep::Dropped(block) => Seen::Dropped(block),
@@ -162,7 +174,7 @@ fn writes_zeros(core: &mut Core, opened: &mut Opened, now: u64, part: Part) -> S
 {
     let mut out = [0; 512];
     match core.zero(now, 1, part, &mut out) {
-        WriteStep::Done => Seen::Done,
+        WriteStep::Done { dirtied: _ } => Seen::Done,
         WriteStep::Wait(why) => Seen::Waits(why),
         WriteStep::Get(job) => gets(core, opened, now, job),
         WriteStep::Dropped(block) => Seen::Dropped(block),
@@ -233,7 +245,8 @@ fn ends(core: &mut Core, opened: &mut Opened, now: u64, ok: bool) -> Seen
 {
     match opened.take() {
         Some((block, zeros)) => {
-            core.put_end(now, 1, PutJob { block, zeros }, ok);
+            // No test asks again for a block that was put, so nothing looks at the digest.
+            core.put_end(now, 1, PutJob { block, zeros }, ok, [0; 16]);
             Seen::Done
         }
         None => Seen::NothingOpen,

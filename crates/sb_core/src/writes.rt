@@ -4,7 +4,7 @@ ghost use Rattle.std.specs.Prelude.{◌≡◌, ◌<◌, ◌≤◌, ◌^◌, ◌&
 ghost use Rattle.std.specs.FinMap.{get};
 ghost use Rattle.sb_base.specs.Ranges.{IsPart};
 ghost use Rattle.sb_history.specs.Contents.{zeros, is_zeros};
-ghost use Rattle.sb_blocks.specs.Cached.{passes, is_held, is_clean};
+ghost use Rattle.sb_blocks.specs.Cached.{passes, is_held, is_clean, is_dirty};
 ghost use Rattle.sb_blocks.specs.Calls.{MayWritePart};
 ghost use Rattle.sb_core.specs.Rules.{PutRule};
 ghost use Rattle.sb_core.specs.WriteSteps.{write_put, write_room};
@@ -23,6 +23,9 @@ impl Core {
     ghost use Rattle.sb_core.specs.Requests.{SameBase, PutOpens, WriteOpens};
     ghost use Rattle.sb_core.specs.Writing.{
       is_too_dirty,
+      is_dirtied,
+      SaysDirtied,
+      TellsDirtied,
       UnheldRule,
       DirtiesTooMany,
       bytes_of,
@@ -53,6 +56,8 @@ impl Core {
         ensures represents { Adds self.old self.new
             (write_entry pass (reading_at now self.old) part bytes.now out.new result) }
         ensures answer { AnswersWrite self.old (reading_at now self.old) part bytes.now result }
+        ensures dirtied { TellsDirtied self.old
+            (write_entry pass (reading_at now self.old) part bytes.now out.new result) part.block result }
         ensures copies { CopiesWrite self.old out.new result }
         ensures opens { WriteOpens self.new pass result }
         ensures leads { WriteLeads self.old self.new pass part.block out.new result }
@@ -73,6 +78,8 @@ impl Core {
         ensures represents { Adds self.old self.new
             (write_entry pass (reading_at now self.old) part (zeros part.length) out.new result) }
         ensures answer { AnswersWrite self.old (reading_at now self.old) part (zeros part.length) result }
+        ensures dirtied { TellsDirtied self.old
+            (write_entry pass (reading_at now self.old) part (zeros part.length) out.new result) part.block result }
         ensures copies { CopiesWrite self.old out.new result }
         ensures opens { WriteOpens self.new pass result }
         ensures leads { WriteLeads self.old self.new pass part.block out.new result }
@@ -100,6 +107,7 @@ impl Core {
         ensures represents { Adds self.old self.new
             (write_entry pass (reading_at now self.old) part (bytes_of part bytes.entry) out.new result) }
         ensures answer { AnswersWrite self.old (reading_at now self.old) part (bytes_of part bytes.entry) result }
+        ensures dirtied { SaysDirtied self.old self.new part.block result }
         ensures copies { CopiesWrite self.old out.new result }
         ensures opens { WriteOpens self.new pass result }
         ensures leads { WriteLeads self.old self.new pass part.block out.new result }
@@ -118,8 +126,8 @@ impl Core {
         if self.is_one_too_many(part, bytes) {
             return put_step(self.put_dirty(pass, out));
         }
-        self.write_part(place, part, bytes, out);
-        WriteStep::Done
+        let dirtied = self.write_part(place, part, bytes, out);
+        WriteStep::Done { dirtied }
     }
 
     /// Writes to a part of a block that has no entry.
@@ -140,6 +148,7 @@ impl Core {
         ensures rule { UnheldRule self.old.window self.old.reading self.old.settings self.old.blocks part.block
             (marks_of self.old part.block && is_zeros (bytes_of part bytes.entry))
             (marks_of self.old part.block || nat_eq part.length self.old.blocks.geometry.block_size) result }
+        ensures dirtied { SaysDirtied self.old self.new part.block result }
         ensures copies { CopiesWrite self.old out.new result }
         ensures opens { WriteOpens self.new pass result }
         ensures leads { WriteLeads self.old self.new pass part.block out.new result }
@@ -149,7 +158,7 @@ impl Core {
         ensures signals { KeepsSignals self.old self.new }
     {
         if self.stays_zeros(part, bytes) {
-            return WriteStep::Done;
+            return WriteStep::Done { dirtied: false };
         }
         let fills = self.fills(part);
         if fills && self.is_too_dirty() {
@@ -159,43 +168,47 @@ impl Core {
             return room_step(self.make_room(pass, out));
         }
         if fills {
-            self.write_part(place, part, bytes, out);
-            return WriteStep::Done;
+            let dirtied = self.write_part(place, part, bytes, out);
+            return WriteStep::Done { dirtied };
         }
         WriteStep::Get(self.begin_get(pass, part.block))
     }
 
     /// Writes to a part of a block that is held, or where an entry is free to a whole block or to one that is known to be
-    /// zeros. Zeros are written from `out`.
-    fn write_part(&mut self, place: u64, part: Part, bytes: Bytes<'_>, out: &mut [u8])
+    /// zeros, and tells whether the block became dirty. Zeros are written from `out`.
+    fn write_part(&mut self, place: u64, part: Part, bytes: Bytes<'_>, out: &mut [u8]) -> bool
         requires part { IsPart self.old.geometry part }
         requires bytes { length (bytes_of part bytes) ≡ part.length }
         requires out { length out.old ≡ self.old.geometry.block_size }
         requires may { MayWritePart self.old.blocks (marks_of self.old part.block) part
             (get self.old.blocks.cached part.block) }
-        ensures { WritesPart self.old self.new place part (bytes_of part bytes.entry) }
+        ensures writes { WritesPart self.old self.new place part (bytes_of part bytes.entry) }
+        ensures dirtied { result ≡ is_dirtied self.old self.new part.block }
     {
         match bytes {
             Bytes::Given(bytes) => self.write_given(place, part, bytes),
             Bytes::Zeros => {
                 let zeros = &mut out[..part.length as usize];
                 fill_zeros(zeros);
-                self.write_given(place, part, zeros);
+                self.write_given(place, part, zeros)
             }
         }
     }
 
-    /// Writes these bytes.
-    fn write_given(&mut self, place: u64, part: Part, bytes: &[u8])
+    /// Writes these bytes, and tells whether the block became dirty.
+    fn write_given(&mut self, place: u64, part: Part, bytes: &[u8]) -> bool
         requires part { IsPart self.old.geometry part }
         requires bytes { length bytes.now ≡ part.length }
         requires may { MayWritePart self.old.blocks (marks_of self.old part.block) part
             (get self.old.blocks.cached part.block) }
-        ensures { WritesPart self.old self.new place part bytes.now }
+        ensures writes { WritesPart self.old self.new place part bytes.now }
+        ensures dirtied { result ≡ is_dirtied self.old self.new part.block }
     {
+        let was_dirty = self.is_dirty(part.block);
         let known_zero = self.marked(part.block);
         self.blocks
             .write_part(self.reading, place, self.epoch, part, bytes, known_zero);
+        !was_dirty && self.is_dirty(part.block)
     }
 
     /// Whether a write would make one more block dirty than may be. The bytes are looked at only where the block is clean
@@ -251,6 +264,20 @@ impl Core {
         ensures { result ≡ is_too_dirty self.now.settings self.now.blocks.cached }
     {
         self.settings.max_dirty != 0 && self.settings.max_dirty <= self.blocks.dirty()
+    }
+
+    /// Whether a block is dirty.
+    fn is_dirty(&self, block: u32) -> bool
+        ensures { result ≡ passes is_dirty (get self.now.blocks.cached block) }
+    {
+        match self.blocks.look(block) {
+            Look::Missing => false,
+            Look::Reading => false,
+            Look::Clean => false,
+            Look::Dirty => true,
+            Look::Writing => false,
+            Look::Writing2 => false,
+        }
     }
 
     /// Whether a block is clean.

@@ -39,23 +39,23 @@ returns-clause-represents c =
     let on : c.args.part.block < mid.geometry.blocks = rw c.tick-place.ensures.geometry c.requires.part.block in
     let within : c.args.part.offset + c.args.part.length ≤ mid.geometry.block_size =
     rw c.tick-place.ensures.geometry c.requires.part.within in
-    adds_ticked c.args.self.now mid c.write_part.new.self c.args.now c.tick-place.result c.args.pass
+    adds_ticked c.args.self.now mid c.write_part-dirtied.new.self c.args.now c.tick-place.result c.args.pass
     (kind.Write c.args.part (bytes_of c.args.part c.args.bytes)) c.tick-place.ensures
-    (write_from mid c.write_part.new.self c.tick-place.result c.args.pass c.args.part (bytes_of c.args.part c.args.bytes)
-    c.write_part.ensures on within c.requires.bytes
+    (write_from mid c.write_part-dirtied.new.self c.tick-place.result c.args.pass c.args.part (bytes_of c.args.part c.args.bytes)
+    c.write_part-dirtied.ensures.writes on within c.requires.bytes
     (may_held mid.blocks (marks_of mid c.args.part.block) c.args.part (get mid.blocks.cached c.args.part.block) (sym c.if-not-holds.ensures)))
 
 pub returns-clause-leads : goal.returns-clause-leads
 returns-clause-leads c =
     let mid = c.tick-place.new.self in
-    since_end c.args.self.now mid c.write_part.new.self c.args.now c.tick-place.result c.tick-place.ensures
-    (write_ends mid c.write_part.new.self c.tick-place.result c.args.part (bytes_of c.args.part c.args.bytes) c.write_part.ensures)
+    since_end c.args.self.now mid c.write_part-dirtied.new.self c.args.now c.tick-place.result c.tick-place.ensures
+    (write_ends mid c.write_part-dirtied.new.self c.tick-place.result c.args.part (bytes_of c.args.part c.args.bytes) c.write_part-dirtied.ensures.writes)
 
 pub returns-clause-open : goal.returns-clause-open
 returns-clause-open c =
     let mid = c.tick-place.new.self in
-    since_keeps c.args.self.now mid c.write_part.new.self c.args.now c.tick-place.result c.tick-place.ensures
-    (write_keeps mid c.write_part.new.self c.tick-place.result c.args.part (bytes_of c.args.part c.args.bytes) c.write_part.ensures)
+    since_keeps c.args.self.now mid c.write_part-dirtied.new.self c.args.now c.tick-place.result c.tick-place.ensures
+    (write_keeps mid c.write_part-dirtied.new.self c.tick-place.result c.args.part (bytes_of c.args.part c.args.bytes) c.write_part-dirtied.ensures.writes)
 
 pub returns-then-is_missing-clause-leads : goal.returns-then-is_missing-clause-leads
 returns-then-is_missing-clause-leads c =

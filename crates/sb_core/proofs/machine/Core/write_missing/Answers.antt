@@ -31,7 +31,7 @@ pub returns-then-fills-2-clause-adds : goal.returns-then-fills-2-clause-adds
 returns-then-fills-2-clause-adds c =
     let core = c.args.self.now in
     let free : len core.blocks.cached < core.blocks.room = omega (arith, c.free.ensures, c.if-free-eq0.false) in
-    write_from core c.write_part.new.self c.args.place c.args.pass c.args.part (bytes_of c.args.part c.args.bytes) c.write_part.ensures
+    write_from core c.write_part-dirtied.new.self c.args.place c.args.pass c.args.part (bytes_of c.args.part c.args.bytes) c.write_part-dirtied.ensures.writes
     c.requires.part.block c.requires.part.within c.requires.bytes
     (may_fresh core.blocks (marks_of core c.args.part.block) c.args.part (get core.blocks.cached c.args.part.block)
     c.requires.missing free (sym c.fills-fills.ensures ∙ c.if-fills-2.true))
@@ -50,11 +50,11 @@ returns-clause-open c =
 
 pub returns-then-fills-2-clause-leads : goal.returns-then-fills-2-clause-leads
 returns-then-fills-2-clause-leads c =
-    write_ends c.args.self.now c.write_part.new.self c.args.place c.args.part (bytes_of c.args.part c.args.bytes) c.write_part.ensures
+    write_ends c.args.self.now c.write_part-dirtied.new.self c.args.place c.args.part (bytes_of c.args.part c.args.bytes) c.write_part-dirtied.ensures.writes
 
 pub returns-then-fills-2-clause-open : goal.returns-then-fills-2-clause-open
 returns-then-fills-2-clause-open c =
-    write_keeps c.args.self.now c.write_part.new.self c.args.place c.args.part (bytes_of c.args.part c.args.bytes) c.write_part.ensures
+    write_keeps c.args.self.now c.write_part-dirtied.new.self c.args.place c.args.part (bytes_of c.args.part c.args.bytes) c.write_part-dirtied.ensures.writes
 
 pub returns-then-stays_zeros-clause-adds : goal.returns-then-stays_zeros-clause-adds
 returns-then-stays_zeros-clause-adds c =
