@@ -8,6 +8,7 @@ mod Rooms
 mod Flushing
 mod Opening
 pub mod SharedTurns
+pub mod PutContents
 pub mod SharedRuns
 pub mod SharedRequests
 pub mod WorkTurns

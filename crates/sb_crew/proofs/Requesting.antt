@@ -30,7 +30,8 @@ use Rattle.sb_core.specs.declared.step.GetDone.{GetDone}
 use Rattle.sb_core.specs.declared.step.GetDone.TheVariants as done
 use Rattle.sb_blocks.specs.declared.cached.OpenGet.{OpenGet}
 use Rattle.sb_core.specs.Represents.{open_get}
-use Rattle.sb_core.specs.Cores.{geometry_of, settings_of}
+use Rattle.sb_core.specs.Cores.{geometry_of, settings_of, Represents, AddsAfterPut}
+use Rattle.sb_core.specs.PutWindow.{IsDigestOf}
 use Rattle.sb_core.specs.Steps.{HasGet, get_end_entry}
 use Rattle.sb_core.specs.Judging.{judged, is_taken}
 use Rattle.sb_crew.specs.Scenes.{disk_at, scene_at, deed_of}
@@ -43,7 +44,7 @@ use Rattle.sb_crew.specs.Outcomes as outcome
 use Rattle.sb_crew.specs.Bases.{Base, base_of}
 use Rattle.sb_crew.specs.Outcomes.{IsLongExpected, HasCause, PausesReach, ReachesBut}
 use Rattle.sb_crew.specs.Joins.{gains_nothing}
-use Rattle.sb_crew.specs.Runs.{next_ticks, Event}
+use Rattle.sb_crew.specs.Runs.{next_ticks, Event, EventWhere, IsPutOf}
 use Rattle.sb_crew.specs.Turns.{next_of, RequestEnds, KeepsReaching, get_begun, get_ended, FetchDoes, Pauses, put_sent}
 use Rattle.sb_crew.specs.Turns.{put_ended, StoreDoes}
 use Rattle.sb_crew.proofs.Pausing.{pause_is}
@@ -395,13 +396,20 @@ pub put_fault : (zeros : Bool) (name : List ℕ) (meta : Option Meta) (content :
 put_fault true name meta content fault = refl
 put_fault false name meta content fault = refl
 
+-- a PUT that ends adds its entry to the histories in which its content is the newest put of its block
+pub put_adds : (old new : Core) (block : ℕ) (content digest : List ℕ) (entry : Entry)
+    → AddsAfterPut digest block old new entry → IsDigestOf old.settings content digest
+    → (past : List Entry) → IsPutOf block content past → Represents old past → Represents new (entry ∷ past)
+put_adds old new block content digest entry adds is past of stands =
+    adds past (subst (λ (c : List ℕ). IsDigestOf old.settings c digest) (sym of) is) stands
+
 -- what a PUT did
 module _ {names names' : Naming} {core core' : Core} {tape tape' : Option (List Entry)}
     {clock clock' : Option (List Tick)} {log log' : Option (List Call)} {faults faults' : ℕ} where
   pub stored : {between : Option (List Tick)} (block : ℕ) (content : List ℕ) (later reading next : ℕ)
       → Gains log log' (put_sent names block content (Ok tt) ∷ [])
       → CountsFaults faults faults' (HasFailed {T = Unit} (Ok tt)) → Gains clock between (tick.Taken later ∷ [])
-      → Event (disk_at names core tape) (disk_at names' core' tape') later (put_ended block reading (Ok tt))
+      → EventWhere (IsPutOf block content) (disk_at names core tape) (disk_at names' core' tape') later (put_ended block reading (Ok tt))
       → Gains between clock' (tick.Taken next ∷ [])
       → StoreDoes (scene_at names core tape log faults clock) (scene_at names' core' tape' log' faults' clock') block content (Ok next)
   stored {between = between} block content later reading next called counted took event readings = record {
@@ -427,7 +435,7 @@ module _ {names names' : Naming} {core core' : Core} {tape tape' : Option (List 
   pub store_failed : (block : ℕ) (content : List ℕ) (cause : LinkFault) (fault : FlushFault) (later reading : ℕ)
       → Gains log log' (put_sent names block content (Err cause) ∷ [])
       → CountsFaults faults faults' (HasFailed {T = Unit} (Err cause)) → Gains clock clock' (tick.Taken later ∷ [])
-      → Event (disk_at names core tape) (disk_at names' core' tape') later (put_ended block reading (Err cause))
+      → EventWhere (IsPutOf block content) (disk_at names core tape) (disk_at names' core' tape') later (put_ended block reading (Err cause))
       → fault ≡ fault_for cause
       → StoreDoes (scene_at names core tape log faults clock) (scene_at names' core' tape' log' faults' clock') block content (Err fault)
   store_failed block content cause fault later reading called counted took event is = record {

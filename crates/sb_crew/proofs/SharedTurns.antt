@@ -32,11 +32,11 @@ use Rattle.sb_core.specs.Represents.{nothing_found, open_get, open_put}
 use Rattle.sb_core.specs.Requests.{SameBase, FlushOpens}
 use Rattle.sb_core.specs.Leads.{ReadLeads, WriteLeads, LeadsToGet}
 use Rattle.sb_core.specs.declared.job.PutJob.{PutJob}
-use Rattle.sb_core.specs.Steps.{CopiesRead, HasGet, HasPut}
-use Rattle.sb_core.specs.Writing.{CopiesWrite}
-use Rattle.sb_core.specs.Flushing.{CopiesFlush}
-use Rattle.sb_crew.specs.Runs.{HasBegun}
-use Rattle.sb_crew.proofs.Turning.{begun_lasts}
+use Rattle.sb_core.specs.Steps.{CopiesRead, HasGet, HasPut, read_kind}
+use Rattle.sb_core.specs.Writing.{CopiesWrite, write_kind}
+use Rattle.sb_core.specs.Flushing.{CopiesFlush, flush_kind}
+use Rattle.sb_crew.specs.Runs.{HasBegun, IsPutOf}
+use Rattle.sb_crew.proofs.Turning.{begun_lasts, put_newest}
 use Rattle.sb_crew.specs.SharedJoins.{entries_in-append, same_pass}
 use Rattle.sb_core.specs.Standing.{entries_in, timed, fixed_of, StandsFor}
 use Rattle.sb_base.specs.declared.part.Part.{Part}
@@ -116,6 +116,15 @@ abbrev pass_in : Option OpenPut → ℕ
 pass_in None = 0
 pass_in (Some put) = put.pass
 
+-- a block is not idle while a put of it is open
+pub none_open : (past : List Entry) (block : ℕ) (open_is : OpenPut) (puts : List Put) → rules.IsIdle past block
+    → puts_of past block ≡ puts → open_put puts ≡ Some open_is → ⊥
+none_open past block open_is [] idle at is = absurd (cc)
+none_open past block open_is (put ∷ puts) idle at is =
+    let shut : is_none put.ending ≡ false = cc in
+    let none : None ≡ Some open_is = sym (ap (λ (b : Bool).
+    if b then Some (record { pass = put.pass; zeros = is_zeros put.content }) else None) shut) ∙ is in absurd (cc)
+
 put_stays_one : (geometry : Geometry) (settings : Settings) (past : List Entry)
     (n block pass place reading : ℕ) (of : EntryKind) (open_is : OpenPut) → open_is.pass ≡ n → pass ≢ n
     → MayFollow geometry settings nothing_found past pass reading of → open_put (puts_of past block) ≡ Some open_is
@@ -125,18 +134,11 @@ put_stays_one geometry settings past n block pass place reading (kind.PutBegin a
       new : Put
       new = record { content = content; pass = pass; place = place; reading = reading; ending = None }
 
-      none_open : (puts : List Put) → rules.IsIdle past block → puts_of past block ≡ puts → open_put puts ≡ Some open_is → ⊥
-      none_open [] idle at is = absurd (cc)
-      none_open (put ∷ puts) idle at is =
-          let shut : is_none put.ending ≡ false = cc in
-          let none : None ≡ Some open_is = sym (ap (λ (b : Bool).
-          if b then Some (record { pass = put.pass; zeros = is_zeros put.content }) else None) shut) ∙ is in absurd (cc)
-
       by : (b : Bool) → nat_eq asked block ≡ b
           → open_put (if b then new ∷ puts_of past block else puts_of past block) ≡ Some open_is
       by true same =
           let at : asked ≡ block = eqb-true asked block same in
-          absurd (none_open (puts_of past block) (subst (rules.IsIdle past) at may.idle_block) refl is)
+          absurd (none_open past block open_is (puts_of past block) (subst (rules.IsIdle past) at may.idle_block) refl is)
       by false same = is
 put_stays_one geometry settings past n block pass place reading (kind.PutEnd asked ok) open_is mine other may is =
     by (nat_eq asked block) refl where
@@ -342,25 +344,43 @@ get_begins n block job stands leads = record {
 
 -- what has begun with an answer, in the history that the core stands for then
 pub read_begins : {core : Core} {past : List Entry} (old : Core) (n : ℕ) (part : Part) (out room : List ℕ) (step : ReadStep)
+    (of reading : ℕ) (before : List Entry)
+    → past ≡ record { pass = of; reading = reading; kind = read_kind part out room step } ∷ before
     → StandsFor core past → ReadLeads old core n part.block room step → CopiesRead old part out room step
     → ReadBegins past n part.block room step
-read_begins old n part out room read.Done stands leads copies = tt
-read_begins old n part out room (read.Wait why) stands leads copies = tt
-read_begins old n part out room (read.Get job) stands leads copies = get_begins n part.block job stands leads
-read_begins old n part out room (read.Dropped block) stands leads copies = tt
-read_begins old n part out room (read.Put job) stands leads copies = (put_opened n job stands leads.begun, copies.zeros)
+read_begins old n part out room read.Done of reading before heads stands leads copies = tt
+read_begins old n part out room (read.Wait why) of reading before heads stands leads copies = tt
+read_begins old n part out room (read.Get job) of reading before heads stands leads copies = get_begins n part.block job stands leads
+read_begins old n part out room (read.Dropped block) of reading before heads stands leads copies = tt
+read_begins old n part out room (read.Put job) of reading before heads stands leads copies = (
+  put_opened n job stands leads.begun,
+  copies.zeros,
+  subst (IsPutOf job.block room) (sym heads) (put_newest of reading job.block room before),
+)
 
 pub write_begins : {core : Core} {past : List Entry} (old : Core) (n block : ℕ) (room : List ℕ) (step : WriteStep)
+    (part : Part) (bytes : List ℕ) (of reading : ℕ) (before : List Entry)
+    → past ≡ record { pass = of; reading = reading; kind = write_kind part bytes room step } ∷ before
     → StandsFor core past → WriteLeads old core n block room step → CopiesWrite old room step
     → WriteBegins past n block room step
-write_begins old n block room write.Done stands leads copies = tt
-write_begins old n block room (write.Wait why) stands leads copies = tt
-write_begins old n block room (write.Get job) stands leads copies = get_begins n block job stands leads
-write_begins old n block room (write.Dropped dropped) stands leads copies = tt
-write_begins old n block room (write.Put job) stands leads copies = (put_opened n job stands leads.begun, copies.zeros)
+write_begins old n block room (write.Done dirtied) part bytes of reading before heads stands leads copies = tt
+write_begins old n block room (write.Wait why) part bytes of reading before heads stands leads copies = tt
+write_begins old n block room (write.Get job) part bytes of reading before heads stands leads copies = get_begins n block job stands leads
+write_begins old n block room (write.Dropped dropped) part bytes of reading before heads stands leads copies = tt
+write_begins old n block room (write.Put job) part bytes of reading before heads stands leads copies = (
+  put_opened n job stands leads.begun,
+  copies.zeros,
+  subst (IsPutOf job.block room) (sym heads) (put_newest of reading job.block room before),
+)
 
 pub flush_begins : {core : Core} {past : List Entry} (old : Core) (n : ℕ) (room : List ℕ) (step : FlushStep)
+    (mark of reading : ℕ) (before : List Entry)
+    → past ≡ record { pass = of; reading = reading; kind = flush_kind mark room step } ∷ before
     → StandsFor core past → FlushOpens core n step → CopiesFlush old room step → FlushBegins past n room step
-flush_begins old n room flush.Done stands opens copies = tt
-flush_begins old n room (flush.Wait why) stands opens copies = tt
-flush_begins old n room (flush.Put job) stands opens copies = (put_opened n job stands opens, copies.zeros)
+flush_begins old n room flush.Done mark of reading before heads stands opens copies = tt
+flush_begins old n room (flush.Wait why) mark of reading before heads stands opens copies = tt
+flush_begins old n room (flush.Put job) mark of reading before heads stands opens copies = (
+  put_opened n job stands opens,
+  copies.zeros,
+  subst (IsPutOf job.block room) (sym heads) (put_newest of reading job.block room before),
+)

@@ -27,11 +27,13 @@ use Rattle.sb_world.specs.declared.link.LinkFault.TheVariants as link
 use Rattle.sb_history.specs.Contents.{is_zeros}
 use Rattle.sb_history.specs.ClockTrace.{PausesAfter}
 use Rattle.sb_history.specs.Flushes.{flush_place, flush_place_after}
+use Rattle.sb_history.specs.Puts.{Put, puts_of}
 use Rattle.sb_history.specs.Requests.{Replies, RequestLog, IsPutCall, meta_of, put_call}
 use Rattle.sb_core.specs.declared.machine.Core.{Core}
 use Rattle.sb_core.specs.declared.job.GetJob.{GetJob}
 use Rattle.sb_core.specs.Cores.{geometry_of, settings_of}
 use Rattle.sb_core.specs.Requests.{SameBase}
+use Rattle.sb_core.specs.PutWindow.{newest_content}
 use Rattle.sb_crew.specs.Scenes.{deed_of, disk_at, scene_at, nothing, Deed}
 use Rattle.sb_crew.specs.Bases.{Base, base_of}
 use Rattle.sb_crew.specs.declared.calls.CallFault.{CallFault}
@@ -42,7 +44,7 @@ use Rattle.sb_crew.specs.Answers.{shown_for, call_fault, as_call}
 use Rattle.sb_crew.specs.Outcomes as outcome
 use Rattle.sb_crew.specs.Outcomes.{Outcome, outcomes_of, outcome_of, bytes_read, bytes_of, asked_of, blocks_asked}
 use Rattle.sb_crew.specs.Outcomes.{IsBlockOf, AsksOnly, IsFailure, NoneFail, HasCause, Meets, Stops, Does, FlushBegun}
-use Rattle.sb_crew.specs.Runs.{any_past, HasBegun, next_ticks, Event, EventWhere, TurnWhere, Did, DidWhere}
+use Rattle.sb_crew.specs.Runs.{any_past, IsPutOf, HasBegun, next_ticks, Event, EventWhere, TurnWhere, Did, DidWhere}
 use Rattle.sb_crew.specs.Turns.{SoFar, next_of, Waits, get_begun, get_ended, FetchDoes, put_sent, put_ended}
 use Rattle.sb_crew.specs.Turns.{StoreDoes}
 use Rattle.sb_crew.specs.Joins.{gains_nothing, turn_joins, did_begin, asked_join}
@@ -57,6 +59,15 @@ Lasts Is = (entries past : List Entry) → Is past → Is (entries ++ past)
 
 pub any_lasts : Lasts any_past
 any_lasts entries past is = tt
+
+-- a put that begins is the block's newest one
+pub put_newest : (pass reading block : ℕ) (content : List ℕ) (past : List Entry)
+    → IsPutOf block content (record { pass = pass; reading = reading; kind = kind.PutBegin block content } ∷ past)
+put_newest pass reading block content past =
+    let new : Put =
+    record { content = content; pass = pass; place = length past; reading = reading; ending = None } in
+    ap (λ (t : Bool). newest_content (if t then new ∷ puts_of past block else puts_of past block))
+    (eq-eqb block block refl)
 
 still_some : (t : Bool) (place : ℕ) (before : Option ℕ) → IsSome before → IsSome (if t then Some place else before)
 still_some true place before some = refl
@@ -207,19 +218,21 @@ module _ {Then : List Entry → Type 0} {met : List Outcome} {names names1 : Nam
 
   two_turns : {names2 names3 : Naming} {c d : Core} {tape2 tape3 : Option (List Entry)}
       {log3 : Option (List Call)} {faults3 : ℕ} {between clock3 : Option (List Tick)} {next : Option ℕ}
-      {after : List Tick} {first second : Entry} {later : ℕ} {asked : Call}
+      {after : List Tick} {first second : Entry} {later : ℕ} {asked : Call} {Later : List Entry → Type 0}
       (before : SoFar Then met (scene_at names a tape log faults clock) (scene_at names1 b tape1 log1 faults1 clock1) parts now)
       → TurnWhere Then (disk_at names1 b tape1) (disk_at names2 c tape2) clock1 between now first (Some later) []
-      → TurnWhere any_past (disk_at names2 c tape2) (disk_at names3 d tape3) between clock3 later second next after
+      → ((past : List Entry) → Later (first ∷ past))
+      → TurnWhere Later (disk_at names2 c tape2) (disk_at names3 d tape3) between clock3 later second next after
       → Asked log1 log3 faults1 faults3 (asked ∷ [])
       → RequestLog (name_of names2) (Some names2.meta) (second ∷ first ∷ []) (asked ∷ [])
       → DidWhere any_past (scene_at names a tape log faults clock) (scene_at names3 d tape3 log3 faults3 clock3) (deed_of (second ∷ first ∷ before.deed.entries) (asked ∷ before.deed.calls) (after ++ tick.Taken later ∷ tick.Taken now ∷ before.deed.ticks)) next
-  two_turns {log3 = log3} {faults3 = faults3} {first = first} {second = second} {asked = asked} before begun ended
+  two_turns {log3 = log3} {faults3 = faults3} {first = first} {second = second} {asked = asked} before begun leads ended
       called requests =
       let same = begun.event.same_names ∙ before.done.runs.same_names in
       let P : Naming → Type 0 = λ n. RequestLog (name_of n) (Some n.meta) (second ∷ first ∷ []) (asked ∷ []) in
       record {
-        runs = turn_joins (λ past fits. tt) (turn_joins (λ past fits. before.leads past) before.done.runs begun) ended;
+        runs = turn_joins (λ past fits. leads (before.deed.entries ++ past))
+            (turn_joins (λ past fits. before.leads past) before.done.runs begun) ended;
         asked = asked_join log log1 log3 faults faults1 faults3 before.deed.calls (asked ∷ []) before.done.asked called;
         requests = requests_join (name_of names) (Some names.meta) before.deed.entries (second ∷ first ∷ []) before.deed.calls
             (asked ∷ []) before.done.requests (subst P same requests);
@@ -340,7 +353,8 @@ module _ {Then : List Entry → Type 0} {met : List Outcome} {names names1 : Nam
       → DidWhere any_past (scene_at names a tape log faults clock) (scene_at names3 d tape3 log3 faults3 clock3) (deed_of (get_ended job fetched.reading fetched.got fetched.bytes fetched.taken ∷ get_begun job ∷ before.deed.entries) (call.Get (name_of names2 job.block) job.verify (get_reply fetched.got fetched.bytes) ∷ before.deed.calls) (fetched.after ++ tick.Taken fetched.later ∷ tick.Taken now ∷ before.deed.ticks)) (next_of ended)
   get_does {names2} {faults3 = faults3} job before is did fetched =
       let asked = call.Get (name_of names2 job.block) job.verify (get_reply fetched.got fetched.bytes) in
-      two_turns before (plain_turn (Some fetched.later) is did (λ past. refl) fetched.took) fetched.turn
+      two_turns before (plain_turn (Some fetched.later) is did (λ past. refl) fetched.took)
+      (λ past. tt) fetched.turn
       (record {
         gained = fetched.called;
         counted = counts_so faults1 faults3 fetched.got asked
@@ -406,7 +420,8 @@ module _ {Then : List Entry → Type 0} {met : List Outcome} {names names1 : Nam
       → (stored : StoreDoes (scene_at names2 c tape2 log1 faults1 clock1) (scene_at names3 d tape3 log3 faults3 clock3) block content ended)
       → DidWhere any_past (scene_at names a tape log faults clock) (scene_at names3 d tape3 log3 faults3 clock3) (deed_of (put_ended block stored.reading stored.sent ∷ event reading (kind.PutBegin block content) ∷ before.deed.entries) (put_sent names2 block content stored.sent ∷ before.deed.calls) (stored.after ++ tick.Taken stored.later ∷ tick.Taken now ∷ before.deed.ticks)) (next_of (as_call ended))
   put_does {names2} {faults3 = faults3} reading block content before is did stored =
-      two_turns before (plain_turn (Some stored.later) is did (λ past. refl) stored.took) stored.turn
+      two_turns before (plain_turn (Some stored.later) is did (λ past. refl) stored.took)
+      (put_newest 1 reading block content) stored.turn
       (record {
         gained = stored.called;
         counted = counts_so faults1 faults3 stored.sent (put_sent names2 block content stored.sent)

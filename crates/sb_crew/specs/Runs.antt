@@ -8,11 +8,13 @@ use Rattle.sb_world.specs.declared.clock.Tick.{Tick}
 use Rattle.sb_world.specs.declared.clock.Tick.TheVariants as tick
 use Rattle.sb_world.specs.declared.link.Meta.{Meta}
 use Rattle.sb_history.specs.Flushes.{flush_place}
+use Rattle.sb_history.specs.Puts.{puts_of}
 use Rattle.sb_history.specs.Passes.{IsOfPass}
 use Rattle.sb_history.specs.Requests.{RequestLog}
 use Rattle.sb_history.specs.ClockTrace.{Caller, ClockTrace, PausesAfter, PauseTicks}
 use Rattle.sb_core.specs.Cores.{Represents, geometry_of, settings_of, reading_of}
 use Rattle.sb_core.specs.Requests.{SameBase}
+use Rattle.sb_core.specs.PutWindow.{newest_content}
 use Rattle.sb_crew.specs.Names.{name_of}
 use Rattle.sb_crew.specs.Scenes.{DiskScene, Scene, Deed}
 use Rattle.sb_crew.specs.Counts.{Asked}
@@ -31,6 +33,10 @@ any_past past = Unit {0}
 
 abbrev pub HasBegun : ℕ → List Entry → Type 0
 HasBegun mark past = IsSome (flush_place past mark)
+
+-- and one in which the block's newest put has this content
+abbrev pub IsPutOf : ℕ → List ℕ → List Entry → Type 0
+IsPutOf block content past = newest_content (puts_of past block) ≡ content
 
 -- the tick of the next reading, where it was taken before it is known for what
 abbrev pub next_ticks : Option ℕ → List Tick

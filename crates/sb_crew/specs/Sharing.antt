@@ -45,6 +45,7 @@ use Rattle.sb_crew.specs.declared.calls.FlushFault.{FlushFault}
 use Rattle.sb_crew.specs.Bases.{Base, shared_base}
 use Rattle.sb_crew.specs.Names.{Naming, name_of}
 use Rattle.sb_crew.specs.Scenes.{Deed, deed_of}
+use Rattle.sb_crew.specs.Runs.{IsPutOf}
 use Rattle.sb_crew.specs.Answers.{shown_for, as_call}
 use Rattle.sb_crew.specs.Counts.{Asked}
 use Rattle.sb_crew.specs.Turns.{put_sent}
@@ -73,7 +74,8 @@ pub record BeginsGet (past : List Entry) (pass block : ℕ) (job : GetJob) : Typ
 
 -- a PUT has begun of the content in a buffer
 abbrev pub BeginsPut : List Entry → ℕ → List ℕ → PutJob → Type 0
-BeginsPut past pass room job = IsOpenPut past pass job × (job.zeros ≡ is_zeros room)
+BeginsPut past pass room job =
+    IsOpenPut past pass job × (job.zeros ≡ is_zeros room) × IsPutOf job.block room past
 
 -- what has begun with an answer to a read, to a write, and to a step of a flush
 abbrev pub ReadBegins : List Entry → ℕ → ℕ → List ℕ → ReadStep → Type 0
@@ -84,7 +86,7 @@ ReadBegins past pass block room (read.Dropped dropped) = Unit {0}
 ReadBegins past pass block room (read.Put job) = BeginsPut past pass room job
 
 abbrev pub WriteBegins : List Entry → ℕ → ℕ → List ℕ → WriteStep → Type 0
-WriteBegins past pass block room write.Done = Unit {0}
+WriteBegins past pass block room (write.Done dirtied) = Unit {0}
 WriteBegins past pass block room (write.Wait why) = Unit {0}
 WriteBegins past pass block room (write.Get job) = BeginsGet past pass block job
 WriteBegins past pass block room (write.Dropped dropped) = Unit {0}

@@ -26,7 +26,7 @@ use Rattle.sb_crew.specs.declared.calls.CallFault.{CallFault}
 use Rattle.sb_crew.specs.declared.calls.FlushFault.{FlushFault}
 use Rattle.sb_crew.specs.declared.calls.FlushFault.TheVariants.{ClockStalled}
 use Rattle.sb_crew.specs.Outcomes.{Outcome, outcomes_of, bytes_read, AsksOnly, HasCause, NoneFail, PausesReach, ReachesBut}
-use Rattle.sb_crew.specs.Runs.{any_past, TurnWhere, DidWhere}
+use Rattle.sb_crew.specs.Runs.{any_past, IsPutOf, TurnWhere, DidWhere}
 
 -- what a call did so far, with the next reading taken: these outcomes, no bytes that it wants, and it asked for no
 -- other blocks than those of these parts. It led to histories of this kind.
@@ -134,7 +134,7 @@ put_sent names block content sent =
 abbrev pub put_ended : ℕ → ℕ → Result Unit LinkFault → Entry
 put_ended block reading sent = record { pass = 1; reading = reading; kind = kind.PutEnd block (is_ok sent) }
 
--- what a PUT did: one call of the link, and its end at a reading that was taken for it
+-- what a PUT of a content did: one call of the link, and its end at a reading that was taken for it
 pub record StoreDoes (old new : Scene) (block : ℕ) (content : List ℕ)
     (result : Result ℕ FlushFault) : Type 0 where
   pub sent : Result Unit LinkFault
@@ -145,7 +145,7 @@ pub record StoreDoes (old new : Scene) (block : ℕ) (content : List ℕ)
   pub took : Gains old.ticks between (tick.Taken later ∷ [])
   pub reading : ℕ
   pub after : List Tick
-  pub turn : TurnWhere any_past old.disk new.disk between new.ticks later
+  pub turn : TurnWhere (IsPutOf block content) old.disk new.disk between new.ticks later
       (put_ended block reading sent) (next_of (as_call result)) after
   pub cause : RequestEnds (base_of old.disk.core) (deed_of (put_ended block reading sent ∷ [])
       (put_sent old.disk.names block content sent ∷ []) (after ++ tick.Taken later ∷ [])) (as_call result)

@@ -12,7 +12,7 @@ use crate::desk::Desk;
 use crate::names::Names;
 use crate::pauses::pause;
 use sb_base::{Answer, Expect, Kind};
-use sb_core::{GetDone, GetJob, PutJob};
+use sb_core::{GetDone, GetJob, PutJob, put_digest};
 use sb_names::MAX_NAME;
 use sb_world::{Clock, Got, Link, LinkFault, Tape};
 
@@ -69,7 +69,7 @@ impl<T: Tape> Alone<T> {
     ghost use Rattle.sb_core.specs.Steps.{HasGet, HasPut, get_end_entry};
     ghost use Rattle.sb_crew.specs.Ready.{IsReady};
     ghost use Rattle.sb_crew.specs.Disks.{disk_of, scene_of};
-    ghost use Rattle.sb_crew.specs.Runs.{Event};
+    ghost use Rattle.sb_crew.specs.Runs.{Event, EventWhere, IsPutOf};
     ghost use Rattle.sb_crew.specs.Turns.{FetchDoes, StoreDoes, GoesOn, IsLatest, put_ended};
 
     /// Makes a GET, gives its answer to the core, and takes the next reading: behind a pause where the answer is stale,
@@ -152,7 +152,8 @@ impl<T: Tape> Alone<T> {
         let verify = job.verify();
         let block = job.block();
         let answer = answer_of(got, room);
-        let done = self.core.get_end(now, PASS, job, answer);
+        let digest = job.digest_of(&answer);
+        let done = self.core.get_end(now, PASS, job, answer, digest);
         let taken = is_taken(done);
         self.note(
             now,
@@ -197,19 +198,22 @@ impl<T: Tape> Alone<T> {
         }
     }
 
-    /// Tells the core at a reading how a put ended.
+    /// Tells the core at a reading how a put of the buffer ended.
     fn end_store(&mut self, now: u64, room: &[u8], job: PutJob, sent: Result<(), LinkFault>)
         requires now { now ≤ 2 ^ 62 }
         requires job { HasPut self.old.core 1 job }
         requires idle { IsIdleBut job.block self.old.core }
         requires current { self.old.reading ≡ reading_of self.old.core }
         requires room { length room.now ≡ (geometry_of self.old.core).block_size }
-        ensures event { Event (disk_of T.Tape self.old) (disk_of T.Tape self.new) now (put_ended job.block self.new.reading sent) }
+        ensures event { EventWhere (IsPutOf job.block room.now) (disk_of T.Tape self.old) (disk_of T.Tape self.new) now
+            (put_ended job.block self.new.reading sent) }
         ensures ready { IsReady self.new.core self.new.reading (length room.now) }
         ensures closer { IsOk sent → IsCloser self.old.core self.new.core }
     {
         let block = job.block();
-        self.core.put_end(now, PASS, job, sent.is_ok());
+        let settings = self.core.settings();
+        let digest = put_digest(&settings, room);
+        self.core.put_end(now, PASS, job, sent.is_ok(), digest);
         self.note(now, Kind::PutEnd(block, sent.is_ok()));
     }
 }

@@ -63,7 +63,7 @@ impl Disk {
         ensures room { vec_len desk.new.room ≡ vec_len desk.old.room }
     {
         'turns: for _ in rt.forever() {
-            let mark = self.bell.mark(rt);
+            let mark = self.bell.mark();
             let now = desk.clock.now();
             match self.ask_read(rt, pass, now, desk.room.as_mut_slice(), part, out) {
                 ReadStep::Done => return Ok(()),
@@ -137,11 +137,14 @@ impl Disk {
         ensures room { vec_len desk.new.room ≡ vec_len desk.old.room }
     {
         'turns: for _ in rt.forever() {
-            let mark = self.bell.mark(rt);
+            let mark = self.bell.mark();
             let now = desk.clock.now();
             match self.ask_write(rt, pass, now, desk.room.as_mut_slice(), part, content) {
-                WriteStep::Done => {
-                    self.bell.ring(rt);
+                WriteStep::Done { dirtied } => {
+                    // Whoever sleeps has to look again only where a block became dirty.
+                    if dirtied {
+                        self.bell.ring(rt);
+                    }
                     return Ok(());
                 }
                 WriteStep::Wait(why) => self.wait(rt, &mut desk.clock, mark, now, why),
@@ -171,7 +174,7 @@ impl Disk {
         let flush = self.begin_flush(rt, pass, begun);
         self.bell.ring(rt);
         'turns: for _ in rt.forever() {
-            let mark = self.bell.mark(rt);
+            let mark = self.bell.mark();
             let now = desk.clock.now();
             match self.ask_flush(rt, pass, now, desk.room.as_mut_slice(), flush) {
                 FlushStep::Done => return Ok(()),

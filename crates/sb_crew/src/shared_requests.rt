@@ -5,7 +5,9 @@ ghost use Rattle.sb_world.specs.Told.{Gains};
 ghost use Rattle.sb_world.specs.declared.clock.Tick.TheVariants.{Taken};
 ghost use Rattle.sb_history.specs.Contents.{is_zeros};
 ghost use Rattle.sb_turn.specs.Passes.{number};
+ghost use Rattle.sb_core.specs.PutWindow.{IsPutDigest};
 ghost use Rattle.sb_crew.specs.Answers.{put_result};
+ghost use Rattle.sb_crew.specs.Runs.{IsPutOf};
 ghost use Rattle.sb_crew.specs.Sharing.{
   seen_by,
   MayCall,
@@ -22,7 +24,8 @@ use crate::calls::{CallFault, FlushFault};
 use crate::desk::Desk;
 use crate::disk::Disk;
 use crate::requests::{STALE_PAUSE, fault_for, is_late};
-use sb_core::{Core, GetDone, GetJob, PutJob};
+use sb_base::Digest;
+use sb_core::{Core, GetDone, GetJob, PutJob, put_digest};
 use sb_names::MAX_NAME;
 use sb_turn::Pass;
 use sb_world::{Clock, Link, LinkFault};
@@ -90,6 +93,7 @@ impl Disk {
         requires ready { MayCall self.now.turn self.now.fixed pass.old }
         requires job { IsOpenPut (seen_by pass.old) (number pass.old) job }
         requires zeros { job.zeros ≡ is_zeros desk.old.room.items }
+        requires content { IsPutOf job.block desk.old.room.items (seen_by pass.old) }
         ensures did { let scene = caller_of L.Link C.Clock in PassStore self.now.names self.now.fixed
             (scene pass.old desk.old) (scene pass.new desk.new) job.block desk.old.room.items result }
         ensures ready { MayCall self.now.turn self.now.fixed pass.new }
@@ -101,10 +105,11 @@ impl Disk {
             job.block(),
             job.zeros(),
         );
-        self.end_store(rt, pass, &mut desk.clock, job, sent)
+        let digest = put_digest(&self.fixed.settings, desk.room.as_slice());
+        self.end_store(rt, pass, &mut desk.clock, job, sent, digest)
     }
 
-    /// Tells the core how a PUT ended, at the caller's next reading.
+    /// Tells the core how a PUT ended, at the caller's next reading. Its content was hashed before.
     pub(crate) fn end_store<R: Wait, C: Clock>(
         &self,
         rt: &R,
@@ -112,9 +117,11 @@ impl Disk {
         clock: &mut C,
         job: PutJob,
         sent: Result<(), LinkFault>,
+        digest: Digest,
     ) -> Result<(), FlushFault>
         requires ready { MayCall self.now.turn self.now.fixed pass.old }
         requires job { IsOpenPut (seen_by pass.old) (number pass.old) job }
+        requires digest { IsPutDigest self.now.fixed.settings (seen_by pass.old) job.block digest }
         ensures turn { (later reading : ℕ)
             × PassTurn pass.old pass.new later (ended_put (number pass.old) job.block reading sent)
             × Gains (C.ticks clock.old) (C.ticks clock.new) (Taken later ∷ []) }
@@ -122,7 +129,7 @@ impl Disk {
         ensures answer { result ≡ put_result sent }
     {
         let now = clock.now();
-        self.end_put(rt, pass, now, job, sent);
+        self.end_put(rt, pass, now, job, sent, digest);
         self.bell.ring(rt);
         match sent {
             Ok(()) => Ok(()),

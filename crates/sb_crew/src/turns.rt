@@ -10,6 +10,7 @@ ghost use Rattle.sb_core.specs.Cores.{Adds, KeepsSignals, geometry_of, reading_a
 ghost use Rattle.sb_core.specs.Requests.{SameBase};
 ghost use Rattle.sb_core.specs.Leads.{WriteLeads};
 ghost use Rattle.sb_core.specs.Judging.{judged};
+ghost use Rattle.sb_core.specs.PutWindow.{IsPutDigest};
 ghost use Rattle.sb_core.specs.Steps.{read_entry, get_end_entry};
 ghost use Rattle.sb_core.specs.Writing.{CopiesWrite, write_entry, write_kind};
 ghost use Rattle.sb_core.specs.Flushing.{flush_begin_entry, flush_step_entry};
@@ -34,7 +35,7 @@ use crate::flushes::flush_kind;
 use crate::reads::read_kind;
 use crate::requests::{answer_of, is_taken};
 use crate::writes::Content;
-use sb_base::{Kind, Part};
+use sb_base::{Digest, Kind, Part};
 use sb_core::{Core, FlushStep, GetDone, GetJob, Mark, PutJob, ReadStep, Timed, WriteStep};
 use sb_turn::{Event, Held, Pass, Turn};
 use sb_world::{Got, LinkFault};
@@ -227,7 +228,7 @@ impl Disk {
         step
     }
 
-    /// Gives the answer to a GET to the core at a reading, with its bytes in the buffer.
+    /// Gives the answer to a GET to the core at a reading, with its bytes in the buffer. They are hashed before the turn.
     pub(crate) fn end_get<R: Wait>(
         &self,
         rt: &R,
@@ -252,9 +253,10 @@ impl Disk {
         let verify = job.verify();
         let block = job.block();
         let answer = answer_of(got, room);
+        let digest = job.digest_of(&answer);
         let mut held = self.turn.enter(rt, pass);
         let number = pass.number();
-        let done = held.value().get_end(now, number, job, answer);
+        let done = held.value().get_end(now, number, job, answer, digest);
         let taken = is_taken(done);
         let kind = Kind::GetEnd {
             block,
@@ -274,10 +276,12 @@ impl Disk {
         now: u64,
         job: PutJob,
         sent: Result<(), LinkFault>,
+        digest: Digest,
     )
         requires now { now ≤ 2 ^ 62 }
         requires ready { MayCall self.now.turn self.now.fixed pass.old }
         requires job { IsOpenPut (seen_by pass.old) (number pass.old) job }
+        requires digest { IsPutDigest self.now.fixed.settings (seen_by pass.old) job.block digest }
         ensures turn { (reading : ℕ)
             × PassTurn pass.old pass.new now (ended_put (number pass.old) job.block reading sent) }
         ensures ready { MayCall self.now.turn self.now.fixed pass.new }
@@ -286,7 +290,7 @@ impl Disk {
         let ok = sent.is_ok();
         let mut held = self.turn.enter(rt, pass);
         let number = pass.number();
-        held.value().put_end(now, number, job, ok);
+        held.value().put_end(now, number, job, ok, digest);
         leave::<Brand>(&self.turn, held, pass, Kind::PutEnd(block, ok));
     }
 }

@@ -7,16 +7,16 @@ ghost use Rattle.sb_core.specs.Jobs.{closing_entry};
 ghost use Rattle.sb_core.specs.Standing.{is_closed};
 ghost use Rattle.sb_world.specs.declared.clock.Tick.TheVariants.{Taken};
 ghost use Rattle.sb_crew.specs.Sharing.{seen_by, MayCall, PassRuns, PassStore, IsOpenPut, caller_of};
+ghost use Rattle.sb_crew.specs.Runs.{IsPutOf};
 ghost use Rattle.sb_crew.specs.SharedDisks.{fixed_of_disk, MayUse};
 ghost use Rattle.sb_crew.specs.Working.{WorkerStopped};
 ghost use Rattle.sb_crew.specs.declared.calls.FlushFault.{FlushFault};
 
 use crate::desk::Desk;
 use crate::disk::Disk;
-use crate::gate::Gate;
-use sb_core::{Core, JobStep, PutJob};
+use sb_core::{Core, JobStep, PutJob, put_digest};
 use sb_turn::Pass;
-use sb_world::{Clock, Link};
+use sb_world::{Clock, Gate, Link};
 use std::sync::Wait;
 use std::time::Duration;
 use std::{thread, time};
@@ -67,7 +67,7 @@ impl Disk {
     {
         let mut call: u64 = 0;
         'turns: for _ in rt.forever() {
-            let mark = self.bell.mark(rt);
+            let mark = self.bell.mark();
             let now = desk.clock.now();
             match self.ask_job(rt, pass, now, desk.room.as_mut_slice()) {
                 JobStep::Closed => return WorkEnd::Closed,
@@ -98,6 +98,7 @@ impl Disk {
         requires ready { MayCall self.now.turn self.now.fixed pass.old }
         requires job { IsOpenPut (seen_by pass.old) (number pass.old) job }
         requires zeros { job.zeros ≡ is_zeros desk.old.room.items }
+        requires content { IsPutOf job.block desk.old.room.items (seen_by pass.old) }
         ensures did { let scene = caller_of L.Link C.Clock in (ended : Result (Unit {0}) FlushFault)
             × PassStore self.now.names self.now.fixed (scene pass.old desk.old) (scene pass.new desk.new) job.block
             desk.old.room.items ended }
@@ -110,7 +111,8 @@ impl Disk {
             .names
             .send(&mut desk.link, room, job.block(), job.zeros());
         gate.after(worker, call);
-        match self.end_store(rt, pass, &mut desk.clock, job, sent) {
+        let digest = put_digest(&self.fixed.settings, desk.room.as_slice());
+        match self.end_store(rt, pass, &mut desk.clock, job, sent, digest) {
             Ok(()) => {}
             Err(_) => thread::sleep(rt, Duration::from_millis(REST)),
         }

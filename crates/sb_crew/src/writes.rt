@@ -27,7 +27,7 @@ fn write_kind<'a>(step: &WriteStep, part: Part, bytes: &'a [u8], room: &'a [u8])
     ensures { entry_kind_of result ≡ write_kind part bytes.now room.now step.now }
 {
     match step {
-        WriteStep::Done => Kind::Write(part, bytes),
+        WriteStep::Done { .. } => Kind::Write(part, bytes),
         WriteStep::Wait(why) => Kind::Waited(*why),
         WriteStep::Get(job) => Kind::GetBegin(job.block(), job.expect(), job.verify()),
         WriteStep::Dropped(block) => Kind::Dropped(*block),
@@ -78,11 +78,11 @@ impl<T: Tape> Alone<T> {
         ensures current { self.new.reading ≡ reading_of self.new.core }
     {
         match self.core.zero(now, PASS, part, room) {
-            WriteStep::Done => {
+            WriteStep::Done { dirtied } => {
                 let zeros = &mut room[..part.length as usize];
                 zeros.fill(0);
                 self.note(now, Kind::Write(part, zeros));
-                WriteStep::Done
+                WriteStep::Done { dirtied }
             }
             WriteStep::Wait(why) => {
                 self.note(now, Kind::Waited(why));
@@ -141,7 +141,7 @@ impl<T: Tape> Alone<T> {
         let mut now = desk.clock.now();
         'turns: loop {
             match self.ask(now, desk.room.as_mut_slice(), part, content) {
-                WriteStep::Done => return Ok(()),
+                WriteStep::Done { dirtied: _ } => return Ok(()),
                 WriteStep::Wait(why) => now = wait(&mut desk.clock, now, why)?,
                 WriteStep::Get(job) => now = self.fetch(desk, job)?,
                 WriteStep::Dropped(_) => now = desk.clock.now(),

@@ -1,5 +1,8 @@
-use Rattle.std.proofs.Common.{ℕ, ◌∙◌, rules, subst}
+use Rattle.std.proofs.Common.{ℕ, ◌∙◌, rules, subst, ap, ◌∷◌}
 use Rattle.sb_base.specs.Lines.{entry_kind_of}
+use Rattle.sb_turn.specs.Passes.{number}
+use Rattle.sb_core.specs.Standing.{entries_in}
+use Rattle.sb_base.specs.declared.entry.EntryKind.{EntryKind}
 use Rattle.sb_core.specs.Cores.{reading_at}
 use Rattle.sb_core.specs.Jobs.{job_kind}
 use Rattle.sb_core.specs.Standing.{StandsFor}
@@ -54,6 +57,9 @@ returns-clause-begins g c =
     subst (λ (n : ℕ). JobBegins (seen_by c.leave.new.pass) n c.next_job-step.new.out c.next_job-step.result)
     (c.number-number.ensures.number.0 ∙ c.enter-held.ensures.pass.0.number)
     (job_begins c.value.result.now c.number-number.result c.next_job-step.new.out c.next_job-step.result
+    (number c.enter-held.new.pass) c.next_job-step.new.self.reading (seen_by c.enter-held.new.pass)
+    (ap entries_in c.leave.ensures.seen
+    ∙ ap (λ (k : EntryKind). record { pass = number c.enter-held.new.pass; reading = c.next_job-step.new.self.reading; kind = k } ∷ seen_by c.enter-held.new.pass) c.job_kind-kind.ensures)
     c.leave.ensures.stands c.next_job-step.ensures.opens c.next_job-step.ensures.copies)
 
 pub returns-clause-closed : goal.returns-clause-closed

@@ -1,4 +1,7 @@
-use Rattle.std.proofs.Common.{ℕ, ◌∙◌, rules, subst}
+use Rattle.std.proofs.Common.{ℕ, ◌∙◌, rules, subst, ap, ◌∷◌}
+use Rattle.sb_turn.specs.Passes.{number}
+use Rattle.sb_core.specs.Standing.{entries_in}
+use Rattle.sb_base.specs.declared.entry.EntryKind.{EntryKind}
 use Rattle.sb_core.specs.Cores.{reading_at}
 use Rattle.sb_base.specs.Lines.{entry_kind_of}
 use Rattle.sb_core.specs.Steps.{read_kind}
@@ -52,4 +55,7 @@ returns-clause-begins g c =
     subst (λ (n : ℕ). ReadBegins (seen_by c.leave.new.pass) n c.args.part.block c.read-step.new.room c.read-step.result)
     (c.number-number.ensures.number.0 ∙ c.enter-held.ensures.pass.0.number)
     (read_begins c.value.result.now c.number-number.result c.args.part c.read-step.new.out c.read-step.new.room c.read-step.result
+    (number c.enter-held.new.pass) c.read-step.new.self.reading (seen_by c.enter-held.new.pass)
+    (ap entries_in c.leave.ensures.seen
+    ∙ ap (λ (k : EntryKind). record { pass = number c.enter-held.new.pass; reading = c.read-step.new.self.reading; kind = k } ∷ seen_by c.enter-held.new.pass) c.read_kind-kind.ensures)
     c.leave.ensures.stands c.read-step.ensures.leads c.read-step.ensures.copies)

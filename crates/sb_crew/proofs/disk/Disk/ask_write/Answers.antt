@@ -1,4 +1,7 @@
-use Rattle.std.proofs.Common.{ℕ, ◌∙◌, rules, refl, subst}
+use Rattle.std.proofs.Common.{ℕ, ◌∙◌, rules, refl, subst, ap, ◌∷◌}
+use Rattle.sb_turn.specs.Passes.{number}
+use Rattle.sb_core.specs.Standing.{entries_in}
+use Rattle.sb_base.specs.declared.entry.EntryKind.{EntryKind}
 use Rattle.sb_core.specs.Cores.{reading_at}
 use Rattle.sb_core.specs.Writing.{write_kind}
 use Rattle.sb_core.specs.StandingLaws.{write_stands}
@@ -52,4 +55,6 @@ returns-clause-begins g c =
     subst (λ (n : ℕ). WriteBegins (seen_by c.leave_write.new.pass) n c.args.part.block c.write_core-step.new.room
     c.write_core-step.result) (c.number-number.ensures.number.0 ∙ c.enter-held.ensures.pass.0.number)
     (write_begins c.value.result.now c.number-number.result c.args.part.block c.write_core-step.new.room c.write_core-step.result
+    c.args.part (content_of c.args.content c.args.part) (number c.enter-held.new.pass) c.write_core-step.new.core.reading
+    (seen_by c.enter-held.new.pass) (ap entries_in c.leave_write.ensures.seen)
     c.leave_write.ensures.stands c.write_core-step.ensures.leads c.write_core-step.ensures.copies)
