@@ -2,13 +2,16 @@
 
 ghost use Rattle.std.specs.Prelude.{◌≡◌, ◌<◌};
 ghost use Rattle.sb_base.specs.Ranges.{IsPart};
+ghost use Rattle.sb_crew.specs.Safety.{IsSafe};
+ghost use Rattle.sb_crew.specs.Sharing.{seen_by};
+ghost use Rattle.sb_crew.specs.SharedDisks.{fixed_of_disk, MayUse};
 ghost use Rattle.test_disks.specs.Callers.{MayCall};
 
 use sb_base::Part;
 use sb_core::Core;
-use sb_crew::{CallFault, Desk, Disk, Gate, WorkEnd};
+use sb_crew::{CallFault, Desk, Disk, WorkEnd};
 use sb_turn::{Bell, Pass};
-use sb_world::{Clock, Link};
+use sb_world::{Clock, Gate, Link};
 use std::sync::Wait;
 use std::thread::{Threads, join};
 use std::time;
@@ -23,8 +26,16 @@ pub struct Caller<L, C> {
     pub desk: Desk<L, C>,
 }
 
+/// What two callers left: the pass that knows of both, and how often each read what it had written.
+#[derive(Drop)]
+pub struct Played {
+    pub pass: Pass<Core>,
+    pub same: (Result<u32, CallFault>, Result<u32, CallFault>),
+}
+
 /// Two callers, each in a thread of its own. Each writes its byte over its own block so often, flushes each time and reads
-/// it back. They tell how often they read what they had written.
+/// it back. At the end their passes are joined to this one: in the one history of both each read is that of a register,
+/// and each flush that is done has saved what was written before, over every store within delays that the settings cover.
 pub fn both_play<
     R: Threads + Wait + time::Clock + Sync,
     L: Link + Send + Drop,
@@ -32,25 +43,37 @@ pub fn both_play<
 >(
     rt: &R,
     disk: &Disk,
+    mut pass: Pass<Core>,
     one: Caller<L, C>,
     two: Caller<L, C>,
     rounds: u32,
-) -> (Result<u32, CallFault>, Result<u32, CallFault>)
+) -> Played
+    requires pass { MayUse disk.now pass }
     requires one { MayCall disk.now one }
     requires two { MayCall disk.now two }
+    ensures safe { IsSafe (fixed_of_disk disk.now) (seen_by result.pass) }
 {
-    join(
+    let (one, two) = join(
         rt,
-        || -> Result<u32, CallFault>
+        || -> (Pass<Core>, Result<u32, CallFault>)
             requires { MayCall disk.now one }
+            ensures { MayUse disk.entry.now result.0 }
         { play(rt, disk, one, 0, b'A', rounds) },
-        || -> Result<u32, CallFault>
+        || -> (Pass<Core>, Result<u32, CallFault>)
             requires { MayCall disk.now two }
+            ensures { MayUse disk.entry.now result.0 }
         { play(rt, disk, two, 1, b'B', rounds) },
-    )
+    );
+    disk.join(&mut pass, one.0);
+    disk.join(&mut pass, two.0);
+    disk.is_safe(&pass);
+    Played {
+        pass,
+        same: (one.1, two.1),
+    }
 }
 
-/// Writes a byte over a block of 512 bytes, so often, flushes each time, and reads it back.
+/// Writes a byte over a block of 512 bytes, so often, flushes each time, and reads it back. It gives its pass back.
 fn play<R: Wait + time::Clock, L: Link + Drop, C: Clock + Drop>(
     rt: &R,
     disk: &Disk,
@@ -58,17 +81,28 @@ fn play<R: Wait + time::Clock, L: Link + Drop, C: Clock + Drop>(
     block: u32,
     byte: u8,
     rounds: u32,
-) -> Result<u32, CallFault>
+) -> (Pass<Core>, Result<u32, CallFault>)
     requires may { MayCall disk.now caller }
     requires block { block < 8 }
+    ensures { MayUse disk.now result.0 }
 {
     let mut same: u32 = 0;
     'rounds: for _ in 0..rounds {
-        if keeps(rt, disk, &mut caller, block, byte)? {
-            same = same.saturating_add(1);
+        match keeps(rt, disk, &mut caller, block, byte) {
+            Ok(true) => same = same.saturating_add(1),
+            Ok(false) => {}
+            Err(fault) => return (pass_of(caller), Err(fault)),
         }
     }
-    Ok(same)
+    (pass_of(caller), Ok(same))
+}
+
+/// The pass of a caller.
+fn pass_of<L: Drop, C: Drop>(caller: Caller<L, C>) -> Pass<Core>
+    ensures { result ≡ caller.pass }
+{
+    let Caller { pass, desk: _ } = caller;
+    pass
 }
 
 /// Writes a byte over a block of 512 bytes, flushes, and reads the block: whether it has this byte throughout.

@@ -1,7 +1,7 @@
 //! A gate that tells that a worker was at the store.
 
-use sb_crew::Gate;
 use sb_turn::Bell;
+use sb_world::Gate;
 use std::sync::Wait;
 
 /// A gate that rings a bell behind each store call.

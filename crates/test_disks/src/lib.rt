@@ -8,7 +8,7 @@ mod store;
 #[cfg(test)]
 mod tests;
 
-pub use callers::{Caller, both_play, work_and_close, write_block};
+pub use callers::{Caller, Played, both_play, work_and_close, write_block};
 pub use disks::{BLOCK, GEOMETRY, caller_over, disk_with};
 pub use gate::RingingGate;
 pub use store::SharedStore;

@@ -34,10 +34,11 @@ fn two_threads_read_what_each_has_written(rt: HostRuntime) -> Result<(), Fail> {
     let store = Mutex::new(PlainStore::new(rt.alloc()));
     let (disk, mut first) = disk_with(rt.alloc(), SETTINGS)?;
     let second = disk.split(&rt, &mut first);
-    let one = caller_over(&rt, rt.alloc(), &store, &disk, first, 1000)?;
-    let two = caller_over(&rt, rt.alloc(), &store, &disk, second, 1000)?;
-    let (same, also) = both_play(&rt, &disk, one, two, 50);
-    assert_eq!(rt; (same, also), (Ok(50), Ok(50)));
+    let third = disk.split(&rt, &mut first);
+    let one = caller_over(&rt, rt.alloc(), &store, &disk, second, 1000)?;
+    let two = caller_over(&rt, rt.alloc(), &store, &disk, third, 1000)?;
+    let played = both_play(&rt, &disk, first, one, two, 50);
+    assert_eq!(rt; played.same, (Ok(50), Ok(50)));
     Ok(())
 }
 
@@ -53,7 +54,7 @@ fn a_worker_puts_a_due_block_and_stops_where_the_disk_is_closed(
     let worker = caller_over(&rt, rt.alloc(), &store, &disk, second, 1250)?;
     write_block(&rt, &disk, &mut client, 0, b'A')?;
     let bell = Bell::new(rt.alloc())?;
-    let mark = bell.mark(&rt);
+    let mark = bell.mark();
     let gate = RingingGate {
         rt: &rt,
         bell: &bell,
