@@ -14,6 +14,7 @@ mod haggling;
 mod laws;
 mod range;
 mod serving;
+mod shared;
 mod transmission;
 mod zeroing;
 
@@ -23,6 +24,7 @@ pub use end::SessionEnd;
 pub use haggling::MAX_ANSWERS;
 pub use laws::one_input;
 pub use serving::serve;
+pub use shared::serve_conn;
 
 #[cfg(test)]
 mod fakes;
