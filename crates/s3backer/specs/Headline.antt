@@ -281,15 +281,17 @@ pub record ServesBench {L C R S : Type 0} (tells : Telling L C R S) (plan : Plan
 abbrev pub AsksBench : PlanParts → Option (List Ask) → Option (List Ask) → Type 0
 AsksBench plan asks asks' = Gains asks asks' (ask.Bench (Some plan.store) 1 ∷ [])
 
--- no bench was handed out and none was shut, and the tape is as it was: the run ends with this status
-pub record EndsUnserved {L C R S : Type 0} (before after : WorldView L C R S) (told told' : Option (List Entry))
+-- no bench was handed out, none was shut and nothing was handed over, and the tape is as it was: the run ends with this
+-- status
+pub record EndsUnserved {N L C R S : Type 0} (before after : WorldView N L C R S) (told told' : Option (List Entry))
     (status wanted : ℕ) : Type 0 where
   pub status_is : status ≡ wanted
   pub tape_stays : told' ≡ told
   pub last_stays : after.last ≡ before.last
+  pub heard_stays : after.heard ≡ before.heard
 
 -- the words were refused: nothing but a line about them
-pub record RefusesWords {L C R S : Type 0} (words : List (List ℕ)) (before after : WorldView L C R S)
+pub record RefusesWords {N L C R S : Type 0} (words : List (List ℕ)) (before after : WorldView N L C R S)
     (told told' : Option (List Entry)) (status : ℕ) : Type 0 where
   pub usage : Usage
   pub refused : IsRefused words usage
@@ -298,8 +300,8 @@ pub record RefusesWords {L C R S : Type 0} (words : List (List ℕ)) (before aft
   pub faults_stay : after.faults ≡ before.faults
   pub says : SaysUsage usage before.said after.said
 
--- the words were taken, and the world had no bench: its count of faults rose
-pub record HasNoBench {L C R S : Type 0} (words : List (List ℕ)) (before after : WorldView L C R S)
+-- the words were taken, and the world had no bench, for another cause than memory: its count of faults rose
+pub record HasNoBench {N L C R S : Type 0} (words : List (List ℕ)) (before after : WorldView N L C R S)
     (told told' : Option (List Entry)) (status : ℕ) : Type 0 where
   pub plan : PlanParts
   pub taken : IsTaken words plan
@@ -310,7 +312,7 @@ pub record HasNoBench {L C R S : Type 0} (words : List (List ℕ)) (before after
 
 -- want of memory came before there was a bench: before the world was asked for one, for words whose answer takes
 -- memory, or as it made it. Its count of faults stays.
-pub record LacksMemoryEarly {L C R S : Type 0} (words : List (List ℕ)) (before after : WorldView L C R S)
+pub record LacksMemoryEarly {N L C R S : Type 0} (words : List (List ℕ)) (before after : WorldView N L C R S)
     (told told' : Option (List Entry)) (status : ℕ) : Type 0 where
   pub asked : (NeedsMemory words × (after.asks ≡ before.asks))
       ⊎ ((plan : PlanParts) × IsTaken words plan × AsksBench plan before.asks after.asks)
@@ -319,8 +321,8 @@ pub record LacksMemoryEarly {L C R S : Type 0} (words : List (List ℕ)) (before
   pub says : Gains before.said after.said (codes "s3backer: out of memory\n" ∷ [])
 
 -- the words were taken, and the world's next bench served and was shut then
-pub record ServesWords {L C R S : Type 0} (tells : Telling L C R S) (words : List (List ℕ))
-    (before after : WorldView L C R S) (told told' : Option (List Entry)) (status : ℕ) : Type 0 where
+pub record ServesWords {N L C R S : Type 0} (tells : Telling L C R S) (words : List (List ℕ))
+    (before after : WorldView N L C R S) (told told' : Option (List Entry)) (status : ℕ) : Type 0 where
   pub plan : PlanParts
   pub taken : IsTaken words plan
   pub asked : AsksBench plan before.asks after.asks
@@ -331,9 +333,10 @@ pub record ServesWords {L C R S : Type 0} (tells : Telling L C R S) (words : Lis
   pub serves : ServesBench tells plan bench bench' told told' status
   pub faults_stay : after.faults ≡ before.faults
   pub quiet : after.said ≡ before.said
+  pub heard_stays : after.heard ≡ before.heard
 
 -- how a run ends
-abbrev pub RunEnds : {L C R S : Type 0} → Telling L C R S → List (List ℕ) → WorldView L C R S → WorldView L C R S
+abbrev pub RunEnds : {N L C R S : Type 0} → Telling L C R S → List (List ℕ) → WorldView N L C R S → WorldView N L C R S
     → Option (List Entry) → Option (List Entry) → ℕ → Type 0
 RunEnds tells words before after told told' status =
     RefusesWords words before after told told' status

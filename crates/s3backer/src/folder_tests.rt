@@ -1,5 +1,9 @@
 //! A directory in memory as the store.
 
+ghost use Rattle.std.specs.Prelude.{Some};
+ghost use Rattle.sb_world.specs.Told.{IsUnused};
+ghost use Rattle.sb_dirstore.specs.Objects.{faults_of, log_of};
+
 use crate::tests::{
     DISC, EIO_1, HANDSHAKE, OK_1, OPENING, READ_512, joined, output, session, session_of, words_of,
 };
@@ -19,7 +23,9 @@ fn file(alloc: Global, name: &[u8], body: &[u8]) -> Result<Object, AllocError> {
 }
 
 /// An empty folder. The calls in `fails`, counted from 1, fail.
-fn empty_folder(alloc: Global, fails: Vec<u64>) -> DirLink<MemoryFolder> {
+fn empty_folder(alloc: Global, fails: Vec<u64>) -> DirLink<MemoryFolder>
+    ensures { IsUnused (Some (log_of result)) (faults_of result) }
+{
     DirLink::new(alloc, MemoryFolder::new(alloc, Vec::new(alloc), fails))
 }
 

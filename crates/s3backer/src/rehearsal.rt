@@ -1,6 +1,7 @@
 //! The program in a world in memory, which tells all that is asked of it.
 
 ghost use Rattle.std.specs.Prelude.{[], ◌∷◌, Some, None, true, IfOk, map, string_bytes};
+ghost use Rattle.sb_world.specs.Told.{IsUnused};
 ghost use Rattle.sb_fakes.specs.Told.{ticks_of, bytes_of, faults_of, entries_of, world_view};
 ghost use Rattle.s3backer.specs.Headline.{RunEnds};
 
@@ -11,13 +12,13 @@ use std::alloc::{AllocError, Global};
 
 /// What a run in a world in memory left.
 #[derive(Drop)]
-pub struct Rehearsal<L> {
+pub struct Rehearsal<L: Link> {
     pub status: u8,
     pub tape: RecordTape,
     pub world: MemoryWorld<L>,
 }
 
-/// Runs the program on these words over a link, a clock, a source and two sinks. What `run` promises holds of the
+/// Runs the program on these words over an unused link, a clock, a source and two sinks. What `run` promises holds of the
 /// entries on the tape, the link's log, the clock's readings and the bytes of the connections, with nothing left untold
 /// but a tape or a log whose growth was refused.
 pub fn rehearse<L: Link + Drop + Send>(
@@ -29,6 +30,7 @@ pub fn rehearse<L: Link + Drop + Send>(
     output: MemoryConn,
     errors: MemoryConn,
 ) -> Result<Rehearsal<L>, AllocError>
+    requires unused { IsUnused (L.log link) (L.faults link) }
     ensures { IfOk result (λ done. RunEnds
         (record {
           log = L.log;
@@ -45,6 +47,7 @@ pub fn rehearse<L: Link + Drop + Send>(
           last = None;
           asks = Some [];
           said = Some [];
+          heard = Some [];
           faults = 0;
         }) (world_view done.world) (Some []) (entries_of done.tape) done.status) }
 {
@@ -53,7 +56,7 @@ pub fn rehearse<L: Link + Drop + Send>(
     let clocks = Vec::from_array(alloc, [clock])?;
     let inputs = Vec::from_array(alloc, [input])?;
     let sinks = Vec::from_array(alloc, [output, errors])?;
-    let mut world = MemoryWorld::new(alloc, links, clocks, inputs, sinks);
+    let mut world = MemoryWorld::new(alloc, links, clocks, inputs, sinks, Vec::new(alloc), 0);
     let outcome = run(alloc, words, &mut world, RecordTape::new(alloc));
     Ok(Rehearsal {
         status: outcome.status,

@@ -2,6 +2,7 @@
 
 ghost use Rattle.std.specs.Prelude.{◌≡◌, ◌≢◌, length};
 ghost use Rattle.sb_base.specs.Shapes.{IsSound};
+ghost use Rattle.sb_world.specs.Told.{IsUnused};
 
 use crate::plan::Plan;
 use crate::rehearsal::{Rehearsal, rehearse};
@@ -49,7 +50,8 @@ pub(crate) fn session<L: Link + Drop + Send>(
     pieces: &[&[u8]],
     piece: u32,
 ) -> Result<Rehearsal<L>, AllocError>
-    requires { piece ≢ 0 }
+    requires piece { piece ≢ 0 }
+    requires unused { IsUnused (L.log link) (L.faults link) }
 {
     let input = MemoryConn::source(joined(alloc, pieces)?, piece, Vec::new(alloc));
     let output = MemoryConn::sink(alloc, Vec::new(alloc));
@@ -71,7 +73,9 @@ pub(crate) fn session_of<L: Link + Drop + Send>(
     words: &[String],
     link: L,
     sent: Text,
-) -> Result<Rehearsal<L>, AllocError> {
+) -> Result<Rehearsal<L>, AllocError>
+    requires unused { IsUnused (L.log link) (L.faults link) }
+{
     rehearse(
         alloc,
         words,
@@ -89,7 +93,9 @@ pub(crate) fn session_over<L: Link + Drop + Send>(
     link: L,
     input: MemoryConn,
     output: MemoryConn,
-) -> Result<Rehearsal<L>, AllocError> {
+) -> Result<Rehearsal<L>, AllocError>
+    requires unused { IsUnused (L.log link) (L.faults link) }
+{
     let words = words_of(alloc, &["--stdio", "--test", "--size=64k", "disk"])?;
     rehearse(
         alloc,
@@ -103,7 +109,9 @@ pub(crate) fn session_over<L: Link + Drop + Send>(
 }
 
 /// An empty store. The calls in `fails`, counted from 1, fail.
-pub(crate) fn failing_store(alloc: Global, fails: Vec<u64>) -> TimedStore {
+pub(crate) fn failing_store(alloc: Global, fails: Vec<u64>) -> TimedStore
+    ensures { IsUnused result.log result.faults.count }
+{
     TimedStore::new(alloc, Vec::new(alloc), Vec::new(alloc), fails)
 }
 
@@ -123,7 +131,7 @@ pub(crate) fn plain_names(alloc: Global, geometry: &Geometry) -> Names
 }
 
 /// What a run wrote.
-pub(crate) fn output<L>(done: &Rehearsal<L>) -> &[u8] {
+pub(crate) fn output<L: Link>(done: &Rehearsal<L>) -> &[u8] {
     match &done.world.last {
         Some(bench) => bench.output.bytes(),
         None => &[],
@@ -131,7 +139,7 @@ pub(crate) fn output<L>(done: &Rehearsal<L>) -> &[u8] {
 }
 
 /// What a run said on its error sink.
-pub(crate) fn errors<L>(done: &Rehearsal<L>) -> &[u8] {
+pub(crate) fn errors<L: Link>(done: &Rehearsal<L>) -> &[u8] {
     match &done.world.last {
         Some(bench) => bench.errors.bytes(),
         None => &[],

@@ -1,5 +1,7 @@
 //! Time in a whole run: a store that stays stale, and a clock that stands still.
 
+ghost use Rattle.sb_world.specs.Told.{IsUnused};
+
 use crate::rehearsal::{Rehearsal, rehearse};
 use crate::tests::{DISC, OPENING, errors, failing_store, joined, output, words_of};
 use crate::write_tests::{FLUSH, READ, WRITE, reply, request};
@@ -16,7 +18,9 @@ fn session_in_time(
     store: TimedStore,
     stalled: bool,
     pieces: &[&[u8]],
-) -> Result<Rehearsal<TimedStore>, AllocError> {
+) -> Result<Rehearsal<TimedStore>, AllocError>
+    requires unused { IsUnused store.log store.faults.count }
+{
     let words = words_of(alloc, &["--stdio", "--test", "--size=5m", "disk"])?;
     rehearse(
         alloc,

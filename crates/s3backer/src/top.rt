@@ -3,7 +3,7 @@
 ghost use Rattle.std.specs.Prelude.{◌≡◌, ◌≤◌, ◌<◌, ◌∷◌, [], ◌⊎◌, IfSome, IfOk, IfErr, codes, length, List, map};
 ghost use Rattle.std.specs.Prelude.{string_bytes};
 ghost use Rattle.sb_world.specs.Told.{Gains, Rose};
-ghost use Rattle.sb_world.specs.Worlds.{with_said};
+ghost use Rattle.sb_world.specs.Worlds.{SaysLine, with_said};
 ghost use Rattle.sb_base.specs.Shapes.{IsSound};
 ghost use Rattle.sb_core.specs.Cores.{geometry_of};
 ghost use Rattle.sb_crew.specs.Desks.{HasRoom};
@@ -319,6 +319,15 @@ where
     (status, tape, bench)
 }
 
+/// Says that there is no bench.
+fn lacks_store<W: World, T>(world: &mut W, tape: T) -> Outcome<T>
+    ensures says { SaysLine (W.view world.old) (W.view world.new) (codes "s3backer: cannot reach the store\n") }
+    ensures outcome { result ≡ record { status = 3; tape = tape } }
+{
+    world.say(b"s3backer: cannot reach the store\n");
+    Outcome { status: 3, tape }
+}
+
 /// Runs the program on these words in a world, with its history on the tape.
 ///
 /// The status is 0 where the session ended at DISC, at ABORT or between two messages and the store has all that was
@@ -355,10 +364,8 @@ where
             world.shut(bench);
             Outcome { status, tape }
         }
-        Err(MakeFault::Store) => {
-            world.say(b"s3backer: cannot reach the store\n");
-            Outcome { status: 3, tape }
-        }
+        Err(MakeFault::Store) => lacks_store(world, tape),
+        Err(MakeFault::Listen) => lacks_store(world, tape),
         Err(MakeFault::Memory) => {
             world.say(OUT_OF_MEMORY);
             Outcome { status: 12, tape }

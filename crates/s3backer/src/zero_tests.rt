@@ -1,5 +1,8 @@
 //! TRIM and WRITE_ZEROES of the program in a world in memory, by the entries of its history.
 
+ghost use Rattle.std.specs.Prelude.{IfOk};
+ghost use Rattle.sb_world.specs.Told.{IsUnused};
+
 use crate::tests::{DISC, OPENING, session};
 use crate::write_tests::{TRIM, WRITE_ZEROES, request};
 use sb_base::{EntryKind, Text};
@@ -8,7 +11,9 @@ use std::alloc::{AllocError, Global};
 use std::test::Fail;
 
 /// A store that has these objects, each a block of `A`.
-fn store_of(alloc: Global, names: &[&[u8]]) -> Result<TimedStore, AllocError> {
+fn store_of(alloc: Global, names: &[&[u8]]) -> Result<TimedStore, AllocError>
+    ensures { IfOk result (λ store. IsUnused store.log store.faults.count) }
+{
     let mut start = Vec::new(alloc);
     for name in names {
         start.push(Object {

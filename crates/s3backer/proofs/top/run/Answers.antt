@@ -17,4 +17,5 @@ returns-in-Ok-bench g c =
       serves = c.run_single-status.ensures;
       faults_stay = rw (c.shut.ensures) (c.bench.ensures.counted.stays (ap (λ made. make_failed made) c.in-Ok-bench.is));
       quiet = rw (c.shut.ensures) c.bench.ensures.same_said;
+      heard_stays = rw (c.shut.ensures) c.bench.ensures.same_heard;
     })))
