@@ -1,0 +1,9 @@
+mod Gathering
+mod Connecting
+mod Calling
+mod Crowds
+mod Working
+mod Ending
+mod Heard
+mod Asking
+mod Unmarked

@@ -1,0 +1,10 @@
+pub mod Tellings
+pub mod Accounts
+pub mod Callers
+pub mod Connections
+pub mod Clients
+pub mod Workers
+pub mod Endings
+pub mod Gatherings
+pub mod Handings
+pub mod Mounts
