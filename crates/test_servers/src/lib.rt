@@ -1,0 +1,8 @@
+//! Clients and workers of one disk, in threads of their own, over one store in memory.
+#![tactic(auto)]
+
+mod crew;
+#[cfg(test)]
+mod tests;
+
+pub use crew::{Crew, crew_over, serve_crew};
