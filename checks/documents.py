@@ -58,6 +58,8 @@ def run_document(name):
         os.symlink(program, os.path.join(folder, "s3backer"))
         status = 0
         for command, printed in commands(text):
+            # one that isn't run for want of a tool counts, too
+            count += 1
             tool = missing_tool(command)
             if tool:
                 print(f"skipped: {name} from its command with {tool} on")
@@ -65,7 +67,6 @@ def run_document(name):
             done = subprocess.run(["bash", "-c", f"(exit {status}); {command}"], cwd=folder, env=ENVIRONMENT, timeout=100,
                                   stdin=subprocess.DEVNULL, stdout=subprocess.PIPE, stderr=subprocess.STDOUT)
             status = done.returncode
-            count += 1
             expect(f"{name}: {command}", done.stdout.decode("utf-8", "replace"), printed)
     if count == 0:
         expect(name, "no command", "commands")
