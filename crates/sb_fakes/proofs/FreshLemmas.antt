@@ -6,7 +6,8 @@ use Rattle.std.proofs.lemmas.List.Elements.{All-drop, All-from_recursion, recurs
 use Rattle.std.specs.List.{AllByRecursion}
 use Rattle.sb_world.specs.Listeners.{ListensAnew}
 use Rattle.sb_world.specs.Told.{IsUnused}
-use Rattle.sb_fakes.specs.Fresh.{IsUntouched}
+use Rattle.sb_world.specs.declared.link.Call.{Call}
+use Rattle.sb_fakes.specs.Fresh.{AreUnused, IsUntouched}
 use Rattle.sb_fakes.specs.Listeners.{came_at, gave_at}
 use Rattle.sb_fakes.specs.Worlds.{told_list}
 use Rattle.sb_fakes.specs.declared.listener.MemoryListener.{MemoryListener}
@@ -42,6 +43,16 @@ unused log faults is = record {
   empty = λ list told. empties list (λ other. not_there is (λ u. other (u.empty list told)));
   counted = zeros faults (λ other. not_there is (λ u. other u.counted));
 }
+
+-- links out of the front of unused ones
+pub front_unused : {L : Type 0} (log : L → Option (List Call)) (faults : L → ℕ) (n : ℕ) (links : List L)
+    → ∥ AreUnused log faults links ∥₁ → AreUnused log faults (take n links)
+front_unused log faults zero links all = tt
+front_unused log faults (suc n) [] all = tt
+front_unused log faults (suc n) (link ∷ links) all = (
+  unused (log link) (faults link) (∥∥₁_map all (λ h. h.0)),
+  front_unused log faults n links (∥∥₁_map all (λ h. h.1)),
+)
 
 none_told : {X : Type 0} (items : List X) (whole : Bool) (list : List X) → items ≡ [] → told_list items whole ≡ Some list
     → list ≡ []

@@ -8,6 +8,7 @@ ghost use Rattle.std.specs.Prelude.{
   None,
   [],
   ◌∷◌,
+  IfErr,
   IfOk,
   MatchResult,
   take,
@@ -245,7 +246,7 @@ impl<L: Link + Drop + Send> World for MemoryWorld<L> {
     ghost use Rattle.sb_world.specs.Benches.{HasPauses};
     ghost use Rattle.sb_world.specs.Listeners.{ListensAnew};
     ghost use Rattle.sb_world.specs.Told.{IsUnused};
-    ghost use Rattle.sb_world.specs.Worlds.{make_failed, with_last};
+    ghost use Rattle.sb_world.specs.Worlds.{make_failed, with_last, IsOfAddress, IsOfStore};
     ghost use Rattle.sb_world.specs.Worlds.{HangsUp, MakesBench, MakesDesk, MakesListener, SaysLine};
     ghost use Rattle.sb_fakes.specs.Failing.{counted};
     ghost use Rattle.sb_fakes.specs.Listeners.{came_at, gave_at};
@@ -256,6 +257,8 @@ impl<L: Link + Drop + Send> World for MemoryWorld<L> {
     fn bench(&mut self, store: Option<&StorePlan>, links: u32) -> Result<MemoryBench<L>, MakeFault>
         requires pauses { HasPauses (option_copied store) }
         ensures makes { MakesBench (world_view self.old) (world_view self.new) (option_copied store.entry) links result }
+        ensures unused { IfOk result (λ bench. AreUnused L.log L.faults bench.links) }
+        ensures fits { IfErr result IsOfStore }
         ensures hands { Hands (link_count (option_copied store.entry) links) result self.old self.new }
         ensures faults { self.new.faults ≡ counted (make_failed result) self.old.faults }
     {
@@ -288,6 +291,7 @@ impl<L: Link + Drop + Send> World for MemoryWorld<L> {
         requires pauses { HasPauses (Some store.now) }
         ensures makes { MakesDesk (world_view self.old) (world_view self.new) store.entry.now result }
         ensures unused { IfOk result (λ desk. IsUnused (L.log desk.0) (L.faults desk.0)) }
+        ensures fits { IfErr result IsOfStore }
         ensures hands { HandsDesk result self.old self.new }
         ensures faults { self.new.faults ≡ counted (make_failed result) self.old.faults }
     {
@@ -303,6 +307,7 @@ impl<L: Link + Drop + Send> World for MemoryWorld<L> {
         ensures makes { MakesListener (world_view self.old) (world_view self.new) address.entry.now limit result }
         ensures anew { IfOk result (λ listener. ListensAnew (came_at listener) (Some listener.over)
             (gave_at listener) listener.faults) }
+        ensures fits { IfErr result IsOfAddress }
         ensures hands { HandsListener result self.old self.new }
         ensures faults { self.new.faults ≡ counted (make_failed result) self.old.faults }
     {

@@ -1,5 +1,6 @@
 -- What a store is, and which one a plan asks for.
-use Rattle.std.specs.Prelude.{ℕ, ◌≡◌, List}
+use Rattle.std.specs.Prelude.{ℕ, ◌≡◌, List, []}
+use Rattle.std.specs.List.{AllByRecursion}
 use Rattle.sb_base.specs.declared.access.StorePlan.{StorePlan}
 use Rattle.sb_base.specs.declared.access.StorePlan.TheVariants as plan
 use Rattle.sb_world.specs.declared.link.Call.{Call}
@@ -22,6 +23,14 @@ log_of (store.Directory link) = directory.log_of link
 abbrev pub faults_of : {W F C : Type 0} → Store W F C → ℕ
 faults_of (store.Bucket link) = bucket.faults_of (retry.link_of link)
 faults_of (store.Directory link) = directory.faults_of link
+
+-- nothing was asked of a store yet, and of each of these
+pub record IsUnusedStore {W F C : Type 0} (link : Store W F C) : Type 0 where
+  pub none_asked : log_of link ≡ []
+  pub counted : faults_of link ≡ 0
+
+abbrev pub AreUnused : {W F C : Type 0} → List (Store W F C) → Type 0
+AreUnused links = AllByRecursion IsUnusedStore links
 
 -- a link to a bucket over a wire, whose requests are signed at the moments of the one clock, and tried again behind the
 -- pauses of the other, of which these are the first and the total

@@ -1,11 +1,11 @@
 //! The world of a process, with buckets and directories as stores.
 
-ghost use Rattle.std.specs.Prelude.{◌≡◌, None, Some, [], IfOk, vec_len, false};
+ghost use Rattle.std.specs.Prelude.{◌≡◌, None, Some, IfErr, IfOk, vec_len, false};
 ghost use Rattle.sb_world.specs.Benches.{HasPauses};
 ghost use Rattle.sb_world.specs.Told.{CountsJust};
-ghost use Rattle.sb_world.specs.Worlds.{make_failed, HangsUp, SaysLine};
+ghost use Rattle.sb_world.specs.Worlds.{make_failed, HangsUp, IsOfStore, SaysLine};
 ghost use Rattle.sb_host.specs.Outcomes.{fault_of_making, fault_of_listening};
-ghost use Rattle.sb_host.specs.Stores.{log_of, faults_of};
+ghost use Rattle.sb_host.specs.Stores.{AreUnused, IsUnusedStore};
 
 use crate::clock::HostClock;
 use crate::ending::Ending;
@@ -104,6 +104,8 @@ impl HostWorld {
     fn links(&mut self, store: &StorePlan, count: u32) -> Result<Vec<HostLink>, MakeFault>
         requires { HasPauses (Some store.now) }
         ensures count { IfOk result (λ links. vec_len links ≡ count) }
+        ensures unused { IfOk result (λ links. AreUnused links.items) }
+        ensures fits { IfErr result IsOfStore }
         ensures counted { CountsJust self.old.faults self.new.faults (make_failed result) }
     {
         let fault = match open_links(self.rt, self.origin, store, count) {
@@ -258,7 +260,8 @@ fn open_links(
     count: u32,
 ) -> io::Result<Vec<HostLink>>
     requires { HasPauses (Some store.now) }
-    ensures { IfOk result (λ links. vec_len links ≡ count) }
+    ensures count { IfOk result (λ links. vec_len links ≡ count) }
+    ensures unused { IfOk result (λ links. AreUnused links.items) }
 {
     let mut links = Vec::new(rt.alloc());
     for _i in 0..count {
@@ -270,7 +273,7 @@ fn open_links(
 /// A link to a store, with clocks whose readings count from an origin.
 fn open_link(rt: HostRuntime, origin: Option<Instant>, store: &StorePlan) -> io::Result<HostLink>
     requires { HasPauses (Some store.now) }
-    ensures { IfOk result (λ link. (log_of link ≡ []) × (faults_of link ≡ 0)) }
+    ensures { IfOk result IsUnusedStore }
 {
     let (id, key) = access_of(store)?;
     let wire = open_wire(rt, store)?;

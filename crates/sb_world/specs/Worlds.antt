@@ -33,6 +33,18 @@ make_failed (Err fault.Store) = true
 make_failed (Err fault.Listen) = true
 make_failed (Err fault.Memory) = false
 
+-- what a fault of making tells: of a bench and a desk that the store can't be reached, of a listener that its address
+-- can't be listened on, and of each want of memory
+abbrev pub IsOfStore : MakeFault → Type 0
+IsOfStore fault.Store = Unit {0}
+IsOfStore fault.Listen = ⊥
+IsOfStore fault.Memory = Unit {0}
+
+abbrev pub IsOfAddress : MakeFault → Type 0
+IsOfAddress fault.Store = ⊥
+IsOfAddress fault.Listen = Unit {0}
+IsOfAddress fault.Memory = Unit {0}
+
 -- a world of which another bench was shut last, and one that has said other lines
 abbrev pub with_last : {N L C R S : Type 0} → Option (BenchParts L C R S) → WorldView N L C R S → WorldView N L C R S
 with_last last world = record {

@@ -1,12 +1,15 @@
 //! What a program is given.
 
-ghost use Rattle.std.specs.Prelude.{◌≡◌, Some, IfOk};
+ghost use Rattle.std.specs.Prelude.{◌≡◌, Some, IfErr, IfOk};
+ghost use Rattle.std.specs.List.{AllByRecursion};
 ghost use Rattle.std.specs.Option.{option_copied};
 ghost use Rattle.sb_world.specs.Benches.{shut_bench, HasPauses};
 ghost use Rattle.sb_world.specs.Listeners.{ListensAnew};
 ghost use Rattle.sb_world.specs.Told.{IsUnused};
 ghost use Rattle.sb_world.specs.Worlds.{
   WorldView,
+  IsOfAddress,
+  IsOfStore,
   MakesBench,
   MakesDesk,
   MakesListener,
@@ -48,7 +51,7 @@ impl<L, C, R, S> Model for Bench<L, C, R, S> {
     } };
 }
 
-/// Why a bench, a desk or a listener wasn't made.
+/// Why a bench, a desk or a listener wasn't made: `Store` of a bench or a desk, `Listen` of a listener.
 #[derive(Drop, Clone, Copy, PartialEq, Eq, Debug)]
 pub enum MakeFault {
     /// The store can't be reached.
@@ -101,7 +104,10 @@ pub trait World {
         links: u32,
     ) -> Result<Bench<Self::Link, Self::Clock, Self::Source, Self::Sink>, MakeFault>
         requires pauses { HasPauses (option_copied store) }
-        ensures { MakesBench (view self.old) (view self.new) (option_copied store.entry) links result };
+        ensures makes { MakesBench (view self.old) (view self.new) (option_copied store.entry) links result }
+        ensures unused { IfOk result (λ bench. AllByRecursion (λ link. IsUnused (Self.Link.log link)
+            (Self.Link.faults link)) bench.links) }
+        ensures fits { IfErr result IsOfStore };
 
     /// Takes a bench back.
     fn shut(&mut self, bench: Bench<Self::Link, Self::Clock, Self::Source, Self::Sink>)
@@ -111,14 +117,16 @@ pub trait World {
     fn desk(&mut self, store: &StorePlan) -> Result<(Self::Link, Self::Clock), MakeFault>
         requires pauses { HasPauses (Some store.now) }
         ensures makes { MakesDesk (view self.old) (view self.new) store.entry.now result }
-        ensures unused { IfOk result (λ desk. IsUnused (Self.Link.log desk.0) (Self.Link.faults desk.0)) };
+        ensures unused { IfOk result (λ desk. IsUnused (Self.Link.log desk.0) (Self.Link.faults desk.0)) }
+        ensures fits { IfErr result IsOfStore };
 
     /// A listener at an address, `HOST:PORT` or a port alone. It accepts at most so many connections, any number where
     /// that is 0.
     fn listener(&mut self, address: &Text, limit: u32) -> Result<Self::Listener, MakeFault>
         ensures makes { MakesListener (view self.old) (view self.new) address.entry.now limit result }
         ensures anew { IfOk result (λ listener. ListensAnew (Self.Listener.came listener)
-            (Self.Listener.over listener) (Self.Listener.gave listener) (Self.Listener.faults listener)) };
+            (Self.Listener.over listener) (Self.Listener.gave listener) (Self.Listener.faults listener)) }
+        ensures fits { IfErr result IsOfAddress };
 
     /// What stands round the store calls of workers.
     fn gate(&mut self) -> Self::Gate

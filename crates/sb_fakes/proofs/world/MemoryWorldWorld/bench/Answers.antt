@@ -1,7 +1,8 @@
-use Rattle.std.proofs.Common.{refl, arith}
+use Rattle.std.proofs.Common.{refl, sym, subst, arith}
 use Rattle.std.proofs.lemmas.Grind.{common_steps}
 use Rattle.sb_world.specs.Told.{IsUnused}
-use Rattle.sb_fakes.proofs.FreshLemmas.{left_so}
+use Rattle.sb_fakes.specs.Fresh.{AreUnused}
+use Rattle.sb_fakes.proofs.FreshLemmas.{left_so, front_unused}
 use Rattle.sb_fakes.proofs.world.MemoryWorldWorld.bench.Goals as goal
 
 pub invariant_of-self-in-Ok : goal.invariant_of-self-in-Ok
@@ -29,3 +30,8 @@ returns-in-Ok-clause-makes g c = record {
   same_said = refl;
   same_heard = refl;
 }
+
+pub returns-in-Ok-clause-unused : goal.returns-in-Ok-clause-unused
+returns-in-Ok-clause-unused g c = subst (AreUnused g.L.Link.log g.L.Link.faults) (sym c.in-Ok.ensures.0)
+    (front_unused g.L.Link.log g.L.Link.faults c.links_of-count.result c.args.self.now.links.items
+    c.args.self.now.unused)
