@@ -21,10 +21,10 @@ use Rattle.sb_session.specs.declared.end.SessionEnd.TheVariants.{Aborted, Ended,
 abbrev pub most_answers : ℕ
 most_answers = 1099511627776
 
--- the flags of a disk: that it has flags (bit 0), is read-only (bit 1), can be flushed (bit 2), and takes FUA (bit 3),
--- TRIM (bit 5) and WRITE_ZEROES (bit 6)
+-- the flags of a disk: that it has flags (bit 0), is read-only (bit 1), can be flushed (bit 2), takes FUA (bit 3),
+-- TRIM (bit 5) and WRITE_ZEROES (bit 6), and may be served to several connections at once (bit 8)
 abbrev pub transmission_flags : Bool → ℕ
-transmission_flags read_only = if read_only then 111 else 109
+transmission_flags read_only = if read_only then 367 else 365
 
 -- what is told of a disk
 abbrev pub export_of : Geometry → Bool → Export

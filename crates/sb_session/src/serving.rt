@@ -56,11 +56,11 @@ fn export_of(geometry: Geometry, read_only: bool) -> Export
 }
 
 /// The flags of a disk: it has flags (bit 0), can be flushed (bit 2), takes FUA (bit 3), TRIM (bit 5) and WRITE_ZEROES
-/// (bit 6), and maybe is read-only (bit 1).
+/// (bit 6), may be served to several connections at once (bit 8), and maybe is read-only (bit 1).
 fn transmission_flags(read_only: bool) -> u16
     ensures { result ≡ transmission_flags read_only }
 {
-    if read_only { 0x006f } else { 0x006d }
+    if read_only { 0x016f } else { 0x016d }
 }
 
 /// Writes the greeting, reads the client's flags, and answers options, up to the one that begins the transmission. It

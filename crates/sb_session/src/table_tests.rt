@@ -132,7 +132,7 @@ fn requests_are_answered_by_the_table(rt: HostRuntime) -> Result<(), Fail> {
             false,
             &[FLAGS, EXPORT_NAME, WRITE_ABC, DISC],
             &[
-                b"\x00\x00\x00\x00\x00\x01\x00\x00\x00\x6d",
+                b"\x00\x00\x00\x00\x00\x01\x00\x00\x01\x6d",
                 b"\x67\x44\x66\x98\x00\x00\x00\x00\x00\x00\x00\x00\x00\x00\x00\x04",
             ],
             SessionEnd::Disconnected,
