@@ -1,10 +1,10 @@
 -- What a world was asked for, one after the other.
-use Rattle.std.proofs.Common.{ℕ, zero, suc, ◌≡◌, ◌<◌, ◌+◌, ◌-◌, List, [], ◌∷◌, ◌++◌, Bool, true, false, Result, Ok, Err, refl, sym, ◌∙◌, ap, subst, append_assoc, arith}
+use Rattle.std.proofs.Common.{ℕ, zero, suc, ◌≡◌, ◌<◌, ◌+◌, ◌-◌, List, [], ◌∷◌, ◌++◌, Bool, true, false, Option, IfErr, Result, Ok, Err, refl, sym, ◌∙◌, ap, subst, append_assoc, arith}
 use Rattle.sb_base.specs.declared.access.StorePlan.{StorePlan}
 use Rattle.sb_base.specs.declared.geometry.Geometry.{Geometry}
 use Rattle.sb_base.specs.declared.text.Text.{Text}
 use Rattle.sb_world.specs.Told.{CountsJust}
-use Rattle.sb_world.specs.Worlds.{WorldView, Makes, make_failed}
+use Rattle.sb_world.specs.Worlds.{WorldView, IsOfStore, IsOfAddress, Makes, make_failed}
 use Rattle.sb_world.specs.declared.world.Ask.{Ask}
 use Rattle.sb_world.specs.declared.world.Ask.TheVariants as ask
 use Rattle.sb_world.specs.declared.world.MakeFault.{MakeFault}
@@ -15,9 +15,9 @@ use Rattle.sb_server.specs.declared.client.Client.{Client}
 use Rattle.sb_server.specs.declared.worker.Worker.{Worker}
 use Rattle.sb_world.specs.declared.link.Link as link
 use Rattle.sb_world.specs.declared.listener.Listener as listener
-use Rattle.sb_server.specs.Gatherings.{client_asks, worker_asks, HasAny, AsksFor, IsDeskAnew, IsClientAnew, AreClientsAnew, AreWorkersAnew}
+use Rattle.sb_server.specs.Gatherings.{client_asks, worker_asks, IsOfNewest, AsksFor, IsDeskAnew, IsClientAnew, AreClientsAnew, AreWorkersAnew}
 
-same_failed : (T U : Type 0) (f : MakeFault) → make_failed {T = T} (Err f) ≡ make_failed {T = U} (Err f)
+pub same_failed : (T U : Type 0) (f : MakeFault) → make_failed {T = T} (Err f) ≡ make_failed {T = U} (Err f)
 same_failed T U fault.Store = refl
 same_failed T U fault.Listen = refl
 same_failed T U fault.Memory = refl
@@ -29,9 +29,41 @@ IsFalse false = Unit {0}
 never_true : false ≡ true → ⊥
 never_true is = subst IsFalse is tt
 
-any_in_front : {X : Type 0} (xs ys : List X) → HasAny xs → HasAny (xs ++ ys)
-any_in_front [] ys any = absurd any
-any_in_front (x ∷ xs) ys any = tt
+of_newest : (newer older : List Ask) (f : MakeFault) → IsOfNewest newer f → IsOfNewest (newer ++ older) f
+of_newest [] older fault.Memory is = tt
+of_newest [] older fault.Store is = absurd is
+of_newest [] older fault.Listen is = absurd is
+of_newest (ask.Bench store links ∷ newer) older fault.Memory is = tt
+of_newest (ask.Bench store links ∷ newer) older fault.Store is = tt
+of_newest (ask.Bench store links ∷ newer) older fault.Listen is = absurd is
+of_newest (ask.Desk store ∷ newer) older fault.Memory is = tt
+of_newest (ask.Desk store ∷ newer) older fault.Store is = tt
+of_newest (ask.Desk store ∷ newer) older fault.Listen is = absurd is
+of_newest (ask.Listener address limit ∷ newer) older fault.Memory is = tt
+of_newest (ask.Listener address limit ∷ newer) older fault.Store is = absurd is
+of_newest (ask.Listener address limit ∷ newer) older fault.Listen is = tt
+
+failed_then : {T : Type 0} (newer older : List Ask) (result : Result T MakeFault) → IfErr result (IsOfNewest newer)
+    → IfErr result (IsOfNewest (newer ++ older))
+failed_then newer older (Ok x) is = tt
+failed_then newer older (Err f) is = of_newest newer older f is
+
+pub bench_failed : (store : Option StorePlan) (links : ℕ) (f : MakeFault) → IsOfStore f
+    → IsOfNewest (ask.Bench store links ∷ []) f
+bench_failed store links fault.Store is = tt
+bench_failed store links fault.Listen is = absurd is
+bench_failed store links fault.Memory is = tt
+
+pub desk_failed : (store : StorePlan) (f : MakeFault) → IsOfStore f → IsOfNewest (ask.Desk store ∷ []) f
+desk_failed store fault.Store is = tt
+desk_failed store fault.Listen is = absurd is
+desk_failed store fault.Memory is = tt
+
+pub listener_failed : (address : Text) (limit : ℕ) (f : MakeFault) → IsOfAddress f
+    → IsOfNewest (ask.Listener address limit ∷ []) f
+listener_failed address limit fault.Store is = absurd is
+listener_failed address limit fault.Listen is = tt
+listener_failed address limit fault.Memory is = tt
 
 module _ {N L C R S : Type 0} where
   pub asks_nothing : {T : Type 0} (a : WorldView N L C R S) (x : T) → AsksFor [] a a (Ok x)
@@ -40,7 +72,7 @@ module _ {N L C R S : Type 0} where
     left_out = [];
     in_order = refl;
     whole = refl;
-    failed = λ never. absurd (never_true never);
+    failed = tt;
     asked = gains_nothing a.asks;
     counted = record { later = omega (arith); rises = λ never. absurd (never_true never); stays = λ is. refl };
     same_tells = refl;
@@ -56,7 +88,7 @@ module _ {N L C R S : Type 0} where
     left_out = [];
     in_order = refl;
     whole = refl;
-    failed = λ never. tt;
+    failed = tt;
     asked = made.asked;
     counted = made.counted;
     same_tells = made.same_tells;
@@ -65,14 +97,14 @@ module _ {N L C R S : Type 0} where
     same_heard = made.same_heard;
   }
 
-  pub one_failed : (T U : Type 0) (a b : WorldView N L C R S) (wanted : Ask) (f : MakeFault) → Makes {T = T} a b wanted (Err f)
-      → AsksFor {T = U} (wanted ∷ []) a b (Err f)
-  one_failed T U a b wanted f made = record {
+  pub one_failed : (T U : Type 0) (a b : WorldView N L C R S) (wanted : Ask) (f : MakeFault)
+      → IsOfNewest (wanted ∷ []) f → Makes {T = T} a b wanted (Err f) → AsksFor {T = U} (wanted ∷ []) a b (Err f)
+  one_failed T U a b wanted f is made = record {
     asks = wanted ∷ [];
     left_out = [];
     in_order = refl;
     whole = tt;
-    failed = λ never. tt;
+    failed = is;
     asked = made.asked;
     counted = subst (λ (failed : Bool). CountsJust a.faults b.faults failed) (same_failed T U f) made.counted;
     same_tells = made.same_tells;
@@ -92,7 +124,7 @@ module _ {N L C R S : Type 0} where
         (first.in_order ∙ ap (λ (l : List Ask). l ++ first.asks) first.whole)
         ∙ append_assoc second.left_out second.asks first.asks;
     whole = second.whole;
-    failed = λ is. any_in_front second.asks first.asks (second.failed is);
+    failed = failed_then second.asks first.asks result second.failed;
     asked = gains_join a.asks b.asks c.asks first.asks second.asks first.asked second.asked;
     counted = subst (λ (n : ℕ). CountsJust n c.faults (make_failed result)) (first.counted.stays refl) second.counted;
     same_tells = second.same_tells ∙ first.same_tells;
@@ -109,7 +141,7 @@ module _ {N L C R S : Type 0} where
     left_out = ys ++ first.left_out;
     in_order = ap (λ (l : List Ask). ys ++ l) first.in_order ∙ sym (append_assoc ys first.left_out first.asks);
     whole = tt;
-    failed = λ is. first.failed (same_failed T U f ∙ is);
+    failed = first.failed;
     asked = first.asked;
     counted = subst (λ (failed : Bool). CountsJust a.faults b.faults failed) (same_failed T U f) first.counted;
     same_tells = first.same_tells;
@@ -126,7 +158,7 @@ module _ {N L C R S : Type 0} where
     left_out = first.left_out;
     in_order = first.in_order;
     whole = first.whole;
-    failed = λ never. absurd (never_true never);
+    failed = tt;
     asked = first.asked;
     counted = first.counted;
     same_tells = first.same_tells;
@@ -143,7 +175,7 @@ module _ {N L C R S : Type 0} where
     left_out = first.left_out;
     in_order = first.in_order;
     whole = tt;
-    failed = λ never. absurd (never_true never);
+    failed = tt;
     asked = first.asked;
     counted = first.counted;
     same_tells = first.same_tells;

@@ -7,3 +7,4 @@ mod Ending
 mod Heard
 mod Asking
 mod Unmarked
+mod Mounting

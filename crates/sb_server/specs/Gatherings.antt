@@ -1,5 +1,5 @@
 -- What a world is asked for by a server, and what clients and workers are as they come of it. Asks are newest first.
-use Rattle.std.specs.Prelude.{ℕ, zero, suc, ◌≡◌, true, List, [], ◌∷◌, ◌++◌, IfOk, Result}
+use Rattle.std.specs.Prelude.{ℕ, zero, suc, ◌≡◌, List, [], ◌∷◌, ◌++◌, IfErr, IfOk, Result}
 use Rattle.sb_base.specs.declared.access.StorePlan.{StorePlan}
 use Rattle.sb_base.specs.declared.geometry.Geometry.{Geometry}
 use Rattle.sb_base.specs.declared.text.Text.{Text}
@@ -11,6 +11,7 @@ use Rattle.sb_world.specs.declared.listener.Listener as listener
 use Rattle.sb_world.specs.declared.world.Ask.{Ask}
 use Rattle.sb_world.specs.declared.world.Ask.TheVariants as ask
 use Rattle.sb_world.specs.declared.world.MakeFault.{MakeFault}
+use Rattle.sb_world.specs.declared.world.MakeFault.TheVariants as fault
 use Rattle.sb_crew.specs.declared.desk.Desk.{Desk}
 use Rattle.sb_crew.specs.Desks.{HasRoom}
 use Rattle.sb_server.specs.declared.caller.Caller.{Caller}
@@ -27,10 +28,13 @@ abbrev pub worker_asks : StorePlan → ℕ → List Ask
 worker_asks store zero = []
 worker_asks store (suc count) = ask.Desk store ∷ worker_asks store count
 
--- there is one
-abbrev pub HasAny : {X : Type 0} → List X → Type 0
-HasAny [] = ⊥
-HasAny (x ∷ xs) = Unit {0}
+-- what wasn't made is what was asked for last, unless memory was wanted
+abbrev pub IsOfNewest : List Ask → MakeFault → Type 0
+IsOfNewest asks fault.Memory = Unit {0}
+IsOfNewest (ask.Bench store links ∷ asks) fault.Store = Unit {0}
+IsOfNewest (ask.Desk store ∷ asks) fault.Store = Unit {0}
+IsOfNewest (ask.Listener address limit ∷ asks) fault.Listen = Unit {0}
+IsOfNewest asks fault = ⊥
 
 -- a world was asked for these in their order, for all of them where all was made, and else up to some one: where something
 -- wasn't made for another cause than memory, up to the ask that failed. Its count of faults rises just there, and the rest
@@ -41,7 +45,7 @@ pub record AsksFor {N L C R S T : Type 0} (wanted : List Ask) (before after : Wo
   pub left_out : List Ask
   pub in_order : wanted ≡ left_out ++ asks
   pub whole : IfOk result (λ made. left_out ≡ [])
-  pub failed : make_failed result ≡ true → HasAny asks
+  pub failed : IfErr result (IsOfNewest asks)
   pub asked : Gains before.asks after.asks asks
   pub counted : CountsJust before.faults after.faults (make_failed result)
   pub same_tells : after.tells ≡ before.tells

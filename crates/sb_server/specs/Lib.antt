@@ -8,3 +8,4 @@ pub mod Endings
 pub mod Gatherings
 pub mod Handings
 pub mod Mounts
+pub mod Servers

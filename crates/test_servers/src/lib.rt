@@ -3,6 +3,8 @@
 
 mod crew;
 #[cfg(test)]
+mod mount_tests;
+#[cfg(test)]
 mod tests;
 
 pub use crew::{Crew, crew_over, serve_crew};
