@@ -1,8 +1,9 @@
-pub mod Opening
+mod Completing
+pub mod BucketLemmas
 pub mod Causes
 pub mod Endings
+pub mod Opening
+pub mod Running
 pub mod Sessions
-pub mod WordLemmas
-pub mod BucketLemmas
 pub mod UrlLemmas
-mod Completing
+pub mod WordLemmas

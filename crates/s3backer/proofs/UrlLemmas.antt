@@ -5,6 +5,7 @@ use Rattle.std.specs.List.{list_all}
 use Rattle.sb_base.specs.declared.size.SizeFault.{SizeFault}
 use Rattle.sb_base.specs.Sizes.{size_of}
 use Rattle.s3backer.specs.Urls.{port_by, port_of}
+use Rattle.s3backer.specs.Addresses.{is_port, is_port_number}
 use Rattle.std.specs.Char.{is_ascii_digit}
 use Rattle.std.specs.Str.{IsAscii}
 use Rattle.std.proofs.lemmas.Bool.Decides.{nat_tests}
@@ -28,3 +29,9 @@ pub port_of_digits : (digits text : List ℕ) → text ≡ digits → list_all i
     → port ≡ port_of digits
 port_of_digits digits text same all sized found =
     rw all (found ∙ ap port_by (sized ∙ ap size_of same))
+
+-- and so of a port to listen at
+pub is_port_of_digits : (digits text : List ℕ) → text ≡ digits → list_all is_ascii_digit digits ≡ true
+    → {size : Result ℕ SizeFault} → size ≡ size_of text → {is : Bool} → is ≡ is_port_number size → is ≡ is_port digits
+is_port_of_digits digits text same all sized found =
+    rw all (found ∙ ap is_port_number (sized ∙ ap size_of same))

@@ -4,12 +4,13 @@ use Rattle.std.proofs.Common.{codes}
 use Rattle.std.proofs.Common.{refl, sym, ◌∙◌, ap, arith, slice_index_or, if◌then◌else◌, nat_eq, length}
 use Rattle.std.specs.List.{list_any, starts_with}
 use Rattle.std.proofs.Common.{inl, inr}
-use Rattle.s3backer.specs.Directories.{DirectoryGiven, option_words, flag_words, is_option, plan_of_directory}
-use Rattle.s3backer.specs.Directories.{planned, shaped, sized, checked_directory, checked_names, prefix_or_empty, is_bad_prefix}
+use Rattle.s3backer.specs.Directories.{DirectoryGiven, IsPlain, form_words, address_words, option_words, flag_words, is_option, plan_of_directory}
+use Rattle.s3backer.specs.Directories.{planned, checked_address, shaped, sized, checked_directory, checked_names, prefix_or_empty, is_bad_prefix}
 use Rattle.s3backer.specs.Buckets.{BucketGiven, planned_bucket, checked_bucket, checked_url, placed, plan_of_bucket, is_bucket}
 use Rattle.s3backer.specs.Urls.{place_of}
 use Rattle.s3backer.specs.Words.{Given, AreWordsOf, IsPlan, plan_of}
-use Rattle.s3backer.specs.Read.{TakesOption, TakesFlag, AreLast, ReadsDirectory, Plans}
+use Rattle.s3backer.specs.Read.{TakesOption, TakesFlag, StripsWord, ArePlaces, ReadsDirectory, Plans}
+use Rattle.s3backer.specs.Addresses.{is_address}
 use Rattle.s3backer.specs.Plans.{PlanParts}
 use Rattle.s3backer.specs.declared.words.Usage.{Usage}
 use Rattle.s3backer.specs.declared.words.Usage.TheVariants as usage
@@ -36,60 +37,95 @@ option_or_flag same = omega (arith, same)
 option_or_size : ◌≡◌ {A = ℕ} 112 115 → ⊥
 option_or_size same = omega (arith, same)
 
+stdio_or_test : ◌≡◌ {A = ℕ} 115 116 → ⊥
+stdio_or_test same = omega (arith, same)
+
 flag_or_size : ◌≡◌ {A = ℕ} 98 115 → ⊥
 flag_or_size same = omega (arith, same)
 
 -- words from the prefix on
-abbrev front_words : Option (List ℕ) → Bool → List ℕ → List ℕ → List (List ℕ)
-front_words prefix hashed size directory =
+abbrev front_words : Option (List ℕ) → Bool → List ℕ → List ℕ → List (List ℕ) → List (List ℕ)
+front_words prefix hashed size directory more =
     option_words (codes "--prefix=") prefix ++ flag_words (codes "--blockHashPrefix") hashed
-    ++ (codes "--size=" ++ size) ∷ directory ∷ []
+    ++ (codes "--size=" ++ size) ∷ directory ∷ more
 
--- without a size and a directory at their end words are of no values
-ends_badly : (words behind last : List (List ℕ)) (prefix : Option (List ℕ)) (hashed : Bool)
-    → TakesOption words (codes "--prefix=") prefix behind
-    → TakesFlag behind (codes "--blockHashPrefix") hashed last → AreLast last None
-    → (given : Option (List ℕ)) (flag : Bool) (size directory : List ℕ) → words ≡ front_words given flag size directory
-    → is_option directory ≡ false → ⊥
-ends_badly words behind last (Some value) true option flagged none (Some given) true size directory are plain =
+-- without a size and a directory and what stands behind them words are of no values
+ends_badly : (words behind last more : List (List ℕ)) (prefix : Option (List ℕ)) (hashed : Bool)
+    → TakesOption words (codes "--prefix=") prefix behind → TakesFlag behind (codes "--blockHashPrefix") hashed last
+    → ((size directory : List ℕ) → last ≡ (codes "--size=" ++ size) ∷ directory ∷ more → is_option directory ≡ false → ⊥)
+    → (given : Option (List ℕ)) (flag : Bool) (size directory : List ℕ)
+    → words ≡ front_words given flag size directory more → is_option directory ≡ false → ⊥
+ends_badly words behind last more (Some value) true option flagged none (Some given) true size directory are plain =
     none size directory (cc) plain
-ends_badly words behind last (Some value) true option flagged none (Some given) false size directory are plain =
+ends_badly words behind last more (Some value) true option flagged none (Some given) false size directory are plain =
     flag_or_size (ap third (sym flagged ∙ tail (sym option ∙ are)))
-ends_badly words behind last (Some value) true option flagged none None true size directory are plain =
+ends_badly words behind last more (Some value) true option flagged none None true size directory are plain =
     option_or_flag (ap third (sym option ∙ are))
-ends_badly words behind last (Some value) true option flagged none None false size directory are plain =
+ends_badly words behind last more (Some value) true option flagged none None false size directory are plain =
     option_or_size (ap third (sym option ∙ are))
-ends_badly words behind last (Some value) false option flagged none (Some given) true size directory are plain =
+ends_badly words behind last more (Some value) false option flagged none (Some given) true size directory are plain =
     flagged.1 _ (tail (sym option ∙ are))
-ends_badly words behind last (Some value) false option flagged none (Some given) false size directory are plain =
+ends_badly words behind last more (Some value) false option flagged none (Some given) false size directory are plain =
     none size directory (cc) plain
-ends_badly words behind last (Some value) false option flagged none None true size directory are plain =
+ends_badly words behind last more (Some value) false option flagged none None true size directory are plain =
     option_or_flag (ap third (sym option ∙ are))
-ends_badly words behind last (Some value) false option flagged none None false size directory are plain =
+ends_badly words behind last more (Some value) false option flagged none None false size directory are plain =
     option_or_size (ap third (sym option ∙ are))
-ends_badly words behind last None true option flagged none (Some given) flag size directory are plain =
+ends_badly words behind last more None true option flagged none (Some given) flag size directory are plain =
     option.1 given _ are
-ends_badly words behind last None true option flagged none None true size directory are plain =
+ends_badly words behind last more None true option flagged none None true size directory are plain =
     none size directory (cc) plain
-ends_badly words behind last None true option flagged none None false size directory are plain =
+ends_badly words behind last more None true option flagged none None false size directory are plain =
     flag_or_size (ap third (sym flagged ∙ (option.0 ∙ are)))
-ends_badly words behind last None false option flagged none (Some given) flag size directory are plain =
+ends_badly words behind last more None false option flagged none (Some given) flag size directory are plain =
     option.1 given _ are
-ends_badly words behind last None false option flagged none None true size directory are plain =
+ends_badly words behind last more None false option flagged none None true size directory are plain =
     flagged.1 _ (option.0 ∙ are)
-ends_badly words behind last None false option flagged none None false size directory are plain =
+ends_badly words behind last more None false option flagged none None false size directory are plain =
     none size directory (cc) plain
+
+-- nor are they without the form's words in front
+badly_formed : (words first second behind last : List (List ℕ)) (stdio : Bool) (prefix : Option (List ℕ)) (hashed : Bool)
+    → TakesFlag words (codes "--stdio") stdio first → first ≡ codes "--test" ∷ second
+    → TakesOption second (codes "--prefix=") prefix behind → TakesFlag behind (codes "--blockHashPrefix") hashed last
+    → ArePlaces stdio last None
+    → (given : Option (List ℕ)) (flag : Bool) (size directory : List ℕ) (address : Option (List ℕ))
+    → words ≡ form_words address ++ codes "--test" ∷ front_words given flag size directory (address_words address)
+    → is_option directory ≡ false → IsPlain address → ⊥
+badly_formed words first second behind last true prefix hashed stdio test option flagged none given flag size directory None are plain place =
+    ends_badly second behind last [] prefix hashed option flagged
+    (λ (s d : List ℕ) ends p. none s d None refl (record { words_are = ends; plain = p; plain_address = tt }))
+    given flag size directory (tail (sym test ∙ tail (sym stdio ∙ are))) plain
+badly_formed words first second behind last true prefix hashed stdio test option flagged none given flag size directory (Some address) are plain place =
+    stdio_or_test (ap third (sym stdio ∙ are))
+badly_formed words first second behind last false prefix hashed stdio test option flagged none given flag size directory None are plain place =
+    stdio.1 _ are
+badly_formed words first second behind last false prefix hashed stdio test option flagged none given flag size directory (Some address) are plain place =
+    ends_badly second behind last (address ∷ []) prefix hashed option flagged
+    (λ (s d : List ℕ) ends p. none s d (Some address) refl (record { words_are = ends; plain = p; plain_address = place }))
+    given flag size directory (tail (sym test ∙ (stdio.0 ∙ are))) plain
 
 -- so the readers find no values only where there are none
-pub no_values : (words first second behind last : List (List ℕ)) (prefix : Option (List ℕ)) (hashed : Bool)
-    → words ≡ codes "--stdio" ∷ first → first ≡ codes "--test" ∷ second
+pub no_values : (words first second behind last : List (List ℕ)) (stdio : Bool) (prefix : Option (List ℕ)) (hashed : Bool)
+    → TakesFlag words (codes "--stdio") stdio first → first ≡ codes "--test" ∷ second
     → TakesOption second (codes "--prefix=") prefix behind
-    → TakesFlag behind (codes "--blockHashPrefix") hashed last → AreLast last None → ReadsDirectory words None
-no_values words first second behind last prefix hashed stdio test option flagged none given form =
-    let are : second ≡ front_words given.prefix given.hashed given.size given.directory =
-    tail (sym test ∙ tail (sym stdio ∙ form.words_are)) in
-    ends_badly second behind last prefix hashed option flagged none given.prefix given.hashed given.size given.directory
-    are form.plain
+    → TakesFlag behind (codes "--blockHashPrefix") hashed last → ArePlaces stdio last None → ReadsDirectory words None
+no_values words first second behind last stdio prefix hashed formed test option flagged none given form =
+    badly_formed words first second behind last stdio prefix hashed formed test option flagged none given.prefix
+    given.hashed given.size given.directory given.address form.words_are form.plain form.plain_address
+
+not_tested : (words first : List (List ℕ)) (stdio : Bool) → TakesFlag words (codes "--stdio") stdio first
+    → StripsWord first (codes "--test") None → (address : Option (List ℕ)) (more : List (List ℕ))
+    → words ≡ form_words address ++ codes "--test" ∷ more → ⊥
+not_tested words first true stdio test None more are = test _ (tail (sym stdio ∙ are))
+not_tested words first true stdio test (Some address) more are = stdio_or_test (ap third (sym stdio ∙ are))
+not_tested words first false stdio test None more are = stdio.1 _ are
+not_tested words first false stdio test (Some address) more are = test _ (stdio.0 ∙ are)
+
+pub no_test : (words first : List (List ℕ)) (stdio : Bool) → TakesFlag words (codes "--stdio") stdio first
+    → StripsWord first (codes "--test") None → ReadsDirectory words None
+no_test words first stdio formed test given form =
+    not_tested words first stdio formed test given.address _ form.words_are
 
 neither : {X : Type 0} (bad slash : Bool) (x y z : X) → bad ≡ false → slash ≡ false
     → (if bad then x else if slash then y else z) ≡ z
@@ -122,20 +158,31 @@ names_form prefix directory false true empty refused = absurd (cc)
 names_form prefix directory false false true refused = absurd (cc)
 names_form prefix directory false false false refused = absurd (cc)
 
-planned_form : (geometry : Result Geometry Usage) (names : Result Unit Usage) (given : DirectoryGiven)
-    → (geometry ≡ Err usage.NotBuilt → ⊥) → (names ≡ Err usage.NotBuilt → ⊥)
-    → planned geometry names given ≡ Err usage.NotBuilt → ⊥
-planned_form (Err cause) names given fits named refused = fits (cc)
-planned_form (Ok geometry) (Err cause) given fits named refused = named (cc)
-planned_form (Ok geometry) (Ok checked) given fits named refused = absurd (cc)
+planned_form : (geometry : Result Geometry Usage) (names address : Result Unit Usage) (given : DirectoryGiven)
+    → (geometry ≡ Err usage.NotBuilt → ⊥) → (names ≡ Err usage.NotBuilt → ⊥) → (address ≡ Err usage.NotBuilt → ⊥)
+    → planned geometry names address given ≡ Err usage.NotBuilt → ⊥
+planned_form (Err cause) names address given fits named placed refused = fits (cc)
+planned_form (Ok geometry) (Err cause) address given fits named placed refused = named (cc)
+planned_form (Ok geometry) (Ok checked) (Err cause) given fits named placed refused = placed (cc)
+planned_form (Ok geometry) (Ok checked) (Ok found) given fits named placed refused = absurd (cc)
+
+address_by : (address : List ℕ) (good : Bool)
+    → ◌≡◌ {A = Result (Unit {0}) Usage} (if good then Ok tt else Err (usage.BadAddress address)) (Err usage.NotBuilt) → ⊥
+address_by address true refused = absurd (cc)
+address_by address false refused = absurd (cc)
+
+address_form : (address : Option (List ℕ)) → checked_address address ≡ Err usage.NotBuilt → ⊥
+address_form None refused = absurd (cc)
+address_form (Some address) refused = address_by address (is_address address) refused
 
 directory_form : (given : DirectoryGiven) → plan_of_directory given ≡ Err usage.NotBuilt → ⊥
 directory_form given refused =
     let prefix = prefix_or_empty given.prefix in
-    planned_form (sized given.size (size_of given.size)) (checked_names prefix given.directory) given
+    planned_form (sized given.size (size_of given.size)) (checked_names prefix given.directory)
+    (checked_address given.address) given
     (sized_form given.size (size_of given.size))
     (names_form prefix given.directory (is_bad_prefix prefix) (list_any (nat_eq 47) prefix)
-    (nat_eq (length given.directory) 0)) refused
+    (nat_eq (length given.directory) 0)) (address_form given.address) refused
 
 bucket_name_form : (name : List ℕ) (good : Bool)
     → ◌≡◌ {A = Result (Unit {0}) Usage} (if good then Ok tt else Err (usage.BadBucket name)) (Err usage.NotBuilt) → ⊥
@@ -188,6 +235,8 @@ planned_words words given (Err (fault.Usage usage.PrefixSlash)) form answers =
 planned_words words given (Err (fault.Usage (usage.BadBucket path))) form answers =
     record { given = given; form = form; fault_is = answers }
 planned_words words given (Err (fault.Usage usage.HttpsRefused)) form answers =
+    record { given = given; form = form; fault_is = answers }
+planned_words words given (Err (fault.Usage (usage.BadAddress address))) form answers =
     record { given = given; form = form; fault_is = answers }
 planned_words words given (Err (fault.Usage (usage.BadUrl url))) form answers =
     record { given = given; form = form; fault_is = answers }

@@ -10,6 +10,7 @@ use Rattle.sb_base.specs.Sizes.{size_of}
 use Rattle.s3backer.specs.Plans.{PlanParts}
 use Rattle.s3backer.specs.Directories.{is_option, sized}
 use Rattle.s3backer.specs.Urls.{place_of}
+use Rattle.s3backer.specs.declared.plan.Form.TheVariants as form
 use Rattle.s3backer.specs.declared.words.Usage.{Usage}
 use Rattle.s3backer.specs.declared.words.Usage.TheVariants as usage
 
@@ -61,6 +62,7 @@ checked_url url = if starts_with nat_eq url (codes "https:") then Err usage.Http
 -- us-east-1, and pauses before further attempts begin with 200 ms and are 30 s together
 abbrev pub bucket_plan : Geometry → List ℕ → ℕ → List ℕ → List ℕ → List ℕ → PlanParts
 bucket_plan geometry host port bucket id key = record {
+  form = form.Stdio;
   store = store.S3 host port bucket false (codes "us-east-1") (access.Given id key) 200 30000;
   prefix = [];
   hashed = false;

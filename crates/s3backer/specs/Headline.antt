@@ -46,7 +46,7 @@ use Rattle.sb_session.specs.Transcripts.{Exchange}
 use Rattle.sb_session.specs.Sessions.{Course}
 use Rattle.s3backer.specs.Plans.{PlanParts, naming_of, plan_base, default_settings}
 use Rattle.s3backer.specs.Views.{Telling, Gear, gear_in, View, view_of}
-use Rattle.s3backer.specs.Words.{IsTaken, IsRefused, NeedsMemory}
+use Rattle.s3backer.specs.Words.{IsRefused}
 use Rattle.s3backer.specs.Wordings.{SaysUsage}
 use Rattle.s3backer.specs.declared.words.Usage.{Usage}
 
@@ -300,31 +300,25 @@ pub record RefusesWords {N L C R S : Type 0} (words : List (List ℕ)) (before a
   pub faults_stay : after.faults ≡ before.faults
   pub says : SaysUsage usage before.said after.said
 
--- the words were taken, and the world had no bench, for another cause than memory: its count of faults rose
-pub record HasNoBench {N L C R S : Type 0} (words : List (List ℕ)) (before after : WorldView N L C R S)
+-- the world had no bench, for another cause than memory: its count of faults rose
+pub record HasNoBench {N L C R S : Type 0} (plan : PlanParts) (before after : WorldView N L C R S)
     (told told' : Option (List Entry)) (status : ℕ) : Type 0 where
-  pub plan : PlanParts
-  pub taken : IsTaken words plan
   pub asked : AsksBench plan before.asks after.asks
   pub cause : Rose before.faults after.faults
   pub unserved : EndsUnserved before after told told' status 3
   pub says : Gains before.said after.said (codes "s3backer: cannot reach the store\n" ∷ [])
 
--- want of memory came before there was a bench: before the world was asked for one, for words whose answer takes
--- memory, or as it made it. Its count of faults stays.
-pub record LacksMemoryEarly {N L C R S : Type 0} (words : List (List ℕ)) (before after : WorldView N L C R S)
+-- want of memory came before there was a bench, and so. The world's count of faults stays.
+pub record LacksMemoryEarly {N L C R S : Type 0} (so : Type 0) (before after : WorldView N L C R S)
     (told told' : Option (List Entry)) (status : ℕ) : Type 0 where
-  pub asked : (NeedsMemory words × (after.asks ≡ before.asks))
-      ⊎ ((plan : PlanParts) × IsTaken words plan × AsksBench plan before.asks after.asks)
+  pub is_so : so
   pub faults_stay : after.faults ≡ before.faults
   pub unserved : EndsUnserved before after told told' status 12
   pub says : Gains before.said after.said (codes "s3backer: out of memory\n" ∷ [])
 
--- the words were taken, and the world's next bench served and was shut then
-pub record ServesWords {N L C R S : Type 0} (tells : Telling L C R S) (words : List (List ℕ))
+-- the world's next bench served and was shut then
+pub record ServesPlan {N L C R S : Type 0} (tells : Telling L C R S) (plan : PlanParts)
     (before after : WorldView N L C R S) (told told' : Option (List Entry)) (status : ℕ) : Type 0 where
-  pub plan : PlanParts
-  pub taken : IsTaken words plan
   pub asked : AsksBench plan before.asks after.asks
   pub bench : BenchParts L C R S
   pub bench' : BenchParts L C R S
@@ -335,11 +329,10 @@ pub record ServesWords {N L C R S : Type 0} (tells : Telling L C R S) (words : L
   pub quiet : after.said ≡ before.said
   pub heard_stays : after.heard ≡ before.heard
 
--- how a run ends
-abbrev pub RunEnds : {N L C R S : Type 0} → Telling L C R S → List (List ℕ) → WorldView N L C R S → WorldView N L C R S
+-- how a run over standard input and output ends: without a bench, or without memory for one, or it served one
+abbrev pub SingleEnds : {N L C R S : Type 0} → Telling L C R S → PlanParts → WorldView N L C R S → WorldView N L C R S
     → Option (List Entry) → Option (List Entry) → ℕ → Type 0
-RunEnds tells words before after told told' status =
-    RefusesWords words before after told told' status
-    ⊎ (HasNoBench words before after told told' status
-    ⊎ (LacksMemoryEarly words before after told told' status
-    ⊎ ServesWords tells words before after told told' status))
+SingleEnds tells plan before after told told' status =
+    HasNoBench plan before after told told' status
+    ⊎ (LacksMemoryEarly (AsksBench plan before.asks after.asks) before after told told' status
+    ⊎ ServesPlan tells plan before after told told' status)

@@ -1,10 +1,12 @@
 pub mod Plans
 pub mod Directories
 pub mod Urls
+pub mod Addresses
 pub mod Buckets
 pub mod Words
 pub mod Read
 pub mod Wordings
 pub mod Views
 pub mod Headline
+pub mod Runs
 pub mod Fresh

@@ -4,11 +4,13 @@ use Rattle.sb_base.specs.declared.access.StorePlan.{StorePlan}
 use Rattle.sb_base.specs.declared.geometry.Geometry.{Geometry}
 use Rattle.sb_base.specs.declared.settings.Settings.{Settings}
 use Rattle.sb_crew.specs.Bases.{Base}
+use Rattle.s3backer.specs.declared.plan.Form.{Form}
 use Rattle.sb_crew.specs.Names.{Naming}
 use Rattle.sb_crew.specs.Runs.{sizes_of}
 
 -- a plan with its prefix as bytes
 pub record PlanParts : Type 0 where
+  pub form : Form
   pub store : StorePlan
   pub prefix : List ℕ
   pub hashed : Bool

@@ -1,9 +1,9 @@
 -- What the readers of words answer.
-use Rattle.std.specs.Prelude.{ℕ, ◌≡◌, Bool, true, false, List, [], ◌∷◌, ◌++◌, codes, Option, Some, None, Result, Ok}
+use Rattle.std.specs.Prelude.{ℕ, ◌≡◌, Bool, true, false, List, [], ◌∷◌, ◌++◌, codes, Option, Some, None, is_none, Result, Ok}
 use Rattle.std.specs.Prelude.{Err}
 use Rattle.std.specs.Option.{option_copied}
 use Rattle.std.proofs.Common.{inl, inr}
-use Rattle.s3backer.specs.Directories.{DirectoryGiven, AreDirectoryWords, is_option}
+use Rattle.s3backer.specs.Directories.{DirectoryGiven, AreDirectoryWords, IsPlain, address_words, is_option}
 use Rattle.s3backer.specs.Buckets.{BucketGiven, AreBucketWords}
 use Rattle.s3backer.specs.Words.{Given, AreWordsOf, TakesMemory, OwesMemory}
 use Rattle.s3backer.specs.declared.words.Usage.{Usage}
@@ -21,6 +21,7 @@ directory_given_of values = record {
   hashed = values.hashed;
   size = values.size.now;
   directory = values.directory.now;
+  address = option_copied values.address;
 }
 
 abbrev pub bucket_given_of : BucketValues → BucketGiven
@@ -62,6 +63,43 @@ abbrev pub AreLast : List (List ℕ) → Option (List ℕ × List ℕ) → Type 
 AreLast words None =
     (size last : List ℕ) → words ≡ (codes "--size=" ++ size) ∷ last ∷ [] → is_option last ≡ false → ⊥
 AreLast words (Some (size, last)) = (words ≡ (codes "--size=" ++ size) ∷ last ∷ []) × (is_option last ≡ false)
+
+-- the words are one that is no option, or they aren't
+abbrev pub IsOnly : List (List ℕ) → Option (List ℕ) → Type 0
+IsOnly words None = (word : List ℕ) → words ≡ word ∷ [] → is_option word ≡ false → ⊥
+IsOnly words (Some word) = (words ≡ word ∷ []) × (is_option word ≡ false)
+
+-- the words are two that are no options, or they aren't
+abbrev pub AreTwo : List (List ℕ) → Option (List ℕ × List ℕ) → Type 0
+AreTwo words None = (first second : List ℕ) → words ≡ first ∷ second ∷ [] → is_option first ≡ false
+    → is_option second ≡ false → ⊥
+AreTwo words (Some (first, second)) =
+    (words ≡ first ∷ second ∷ []) × (is_option first ≡ false) × (is_option second ≡ false)
+
+-- the words are a directory and an address where there is one, which are no options
+pub record ArePlainOf (words : List (List ℕ)) (directory : List ℕ) (address : Option (List ℕ)) : Type 0 where
+  pub words_are : words ≡ directory ∷ address_words address
+  pub plain : is_option directory ≡ false
+  pub plain_address : IsPlain address
+
+-- so they are, or they aren't
+abbrev pub ArePlain : Bool → List (List ℕ) → Option (List ℕ × Option (List ℕ)) → Type 0
+ArePlain stdio words None = (directory : List ℕ) (address : Option (List ℕ)) → is_none address ≡ stdio
+    → ArePlainOf words directory address → ⊥
+ArePlain stdio words (Some (directory, address)) =
+    (is_none address ≡ stdio) × ArePlainOf words directory address
+
+-- the words are a size, a directory and an address where there is one, or they aren't
+pub record ArePlacesOf (words : List (List ℕ)) (size directory : List ℕ) (address : Option (List ℕ)) : Type 0 where
+  pub words_are : words ≡ (codes "--size=" ++ size) ∷ directory ∷ address_words address
+  pub plain : is_option directory ≡ false
+  pub plain_address : IsPlain address
+
+abbrev pub ArePlaces : Bool → List (List ℕ) → Option (List ℕ × List ℕ × Option (List ℕ)) → Type 0
+ArePlaces stdio words None = (size directory : List ℕ) (address : Option (List ℕ)) → is_none address ≡ stdio
+    → ArePlacesOf words size directory address → ⊥
+ArePlaces stdio words (Some (size, directory, address)) =
+    (is_none address ≡ stdio) × ArePlacesOf words size directory address
 
 -- the words give these values of a disk over a directory, or none
 abbrev pub ReadsDirectory : List (List ℕ) → Option DirectoryGiven → Type 0

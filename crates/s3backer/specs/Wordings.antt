@@ -9,6 +9,7 @@ use Rattle.s3backer.specs.declared.words.Usage.TheVariants as usage
 abbrev pub IsWording : Usage → List ℕ → Type 0
 IsWording usage.NotBuilt text =
     text ≡ codes "s3backer --stdio --test [--prefix=TEXT] [--blockHashPrefix] --size=SIZE DIR"
+    ++ codes ", or s3backer --test [--prefix=TEXT] [--blockHashPrefix] --size=SIZE DIR HOST:PORT"
     ++ codes ", or s3backer --stdio --baseURL=URL --accessId=ID --accessKey=KEY --size=SIZE BUCKET"
 IsWording (usage.BadSize name word) text = text ≡ shown name ++ codes ": not a size: " ++ shown word
 IsWording (usage.Geometry fault) text = (told : List ℕ) × (text ≡ shown told)
@@ -16,6 +17,7 @@ IsWording (usage.BadPrefix prefix) text = text ≡ codes "--prefix: not a prefix
 IsWording usage.PrefixSlash text = text ≡ codes "--prefix: a slash, with --test"
 IsWording (usage.BadBucket name) text = text ≡ codes "not the name of a bucket or directory: " ++ shown name
 IsWording usage.HttpsRefused text = text ≡ codes "--baseURL: https is not supported"
+IsWording (usage.BadAddress address) text = text ≡ codes "not HOST:PORT: " ++ shown address
 IsWording (usage.BadUrl url) text = text ≡ codes "--baseURL: not http://host/ or http://host:port/: " ++ shown url
 
 -- the line with a wording

@@ -46,6 +46,7 @@ TakesMemory (usage.BadSize name word) = Unit {0}
 TakesMemory (usage.BadPrefix prefix) = Unit {0}
 TakesMemory (usage.BadBucket name) = Unit {0}
 TakesMemory (usage.BadUrl url) = Unit {0}
+TakesMemory (usage.BadAddress address) = Unit {0}
 TakesMemory fault = ⊥
 
 -- a plan takes memory, and so do some refusals

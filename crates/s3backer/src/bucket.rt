@@ -17,7 +17,7 @@ ghost use Rattle.s3backer.specs.Buckets.{
 };
 ghost use Rattle.s3backer.specs.Read.{Answers, Plans, ReadsBucket, bucket_given_of, with_value};
 
-use crate::plan::Plan;
+use crate::plan::{Form, Plan};
 use crate::url::place_of;
 use crate::words::{
     PlanFault, Usage, bad_bucket, geometry_of, refused_as, size_and_last, strip_word, take_value,
@@ -169,6 +169,7 @@ fn bucket_plan(
     ensures { IfOk result (λ plan. plan ≡ bucket_plan geometry host.now port bucket.now id.now key.now) }
 {
     Ok(Plan {
+        form: Form::Stdio,
         store: StorePlan::S3 {
             host: Text::of(alloc, host)?,
             port,

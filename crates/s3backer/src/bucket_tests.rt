@@ -122,7 +122,7 @@ fn the_first_fault_of_a_bucket_is_told(rt: HostRuntime) -> Result<(), Fail> {
         ),
     ];
     for (words, line) in rows {
-        assert!(rt; is_refused(alloc, words, line)?);
+        assert!(rt; is_refused(&rt, alloc, words, line)?);
     }
     Ok(())
 }

@@ -7,9 +7,11 @@ ghost use Rattle.std.specs.List.{list_any};
 ghost use Rattle.std.specs.Option.{option_copied, option_map};
 ghost use Rattle.sb_names.specs.declared.names.TheConstants.{MAX_PREFIX};
 ghost use Rattle.s3backer.specs.Directories.{
+  checked_address,
   checked_directory,
   checked_names,
   directory_plan,
+  form_of,
   is_bad_prefix,
   is_odd,
   plan_of_directory,
@@ -23,9 +25,10 @@ ghost use Rattle.s3backer.specs.Read.{
   directory_given_of,
 };
 
-use crate::plan::Plan;
+use crate::address::is_address;
+use crate::plan::{Form, Plan};
 use crate::words::{
-    PlanFault, Usage, bad_bucket, geometry_of, refused_as, size_and_last, strip_word,
+    PlanFault, Usage, bad_bucket, geometry_of, refused_as, size_and_places, strip_word,
 };
 use sb_base::{Geometry, StorePlan, Text};
 use sb_names::MAX_PREFIX;
@@ -38,22 +41,25 @@ pub(crate) struct DirectoryValues<'a> {
     hashed: bool,
     size: &'a str,
     directory: &'a str,
+    /// Where the disk is served, and over standard input and output without it.
+    address: Option<&'a str>,
 }
 
 /// The values of words of a disk over a directory.
 pub(crate) fn read_directory(words: &[String]) -> Option<DirectoryValues<'_>>
     ensures { ReadsDirectory (map string_bytes words.now) (option_map directory_given_of result) }
 {
-    let words = strip_word(words, "--stdio")?;
+    let (stdio, words) = take_flag(words, "--stdio");
     let words = strip_word(words, "--test")?;
     let (prefix, words) = take_option(words, "--prefix=");
     let (hashed, words) = take_flag(words, "--blockHashPrefix");
-    let (size, directory) = size_and_last(words)?;
+    let (size, directory, address) = size_and_places(words, stdio)?;
     Some(DirectoryValues {
         prefix,
         hashed,
         size,
         directory,
+        address,
     })
 }
 
@@ -100,7 +106,11 @@ pub(crate) fn plan_of_directory(
         Ok(()) => {}
         Err(fault) => return Err(fault),
     }
-    match directory_plan(alloc, geometry, prefix, values.hashed, values.directory) {
+    match check_address(alloc, values.address) {
+        Ok(()) => {}
+        Err(fault) => return Err(fault),
+    }
+    match directory_plan(alloc, geometry, values) {
         Ok(plan) => Ok(plan),
         Err(_) => Err(PlanFault::Memory),
     }
@@ -110,21 +120,55 @@ pub(crate) fn plan_of_directory(
 fn directory_plan(
     alloc: Global,
     geometry: Geometry,
-    prefix: &str,
-    hashed: bool,
-    directory: &str,
+    values: &DirectoryValues<'_>,
 ) -> Result<Plan, AllocError>
-    ensures { IfOk result (λ plan. plan ≡ directory_plan geometry prefix.now hashed directory.now) }
+    ensures { IfOk result (λ plan. plan ≡ directory_plan geometry (directory_given_of values.now)) }
 {
     Ok(Plan {
+        form: form_of(alloc, values.address)?,
         store: StorePlan::Dir {
-            path: Text::of(alloc, directory.as_bytes())?,
+            path: Text::of(alloc, values.directory.as_bytes())?,
         },
-        prefix: String::from_str(alloc, prefix)?,
-        hashed,
+        prefix: String::from_str(alloc, values.prefix.unwrap_or(""))?,
+        hashed: values.hashed,
         geometry,
         read_only: false,
     })
+}
+
+/// How the disk is served.
+fn form_of(alloc: Global, address: Option<&str>) -> Result<Form, AllocError>
+    ensures { IfOk result (λ form. form ≡ form_of (option_copied address.entry)) }
+{
+    match address {
+        Some(address) => Ok(Form::Server {
+            address: Text::of(alloc, address.as_bytes())?,
+        }),
+        None => Ok(Form::Stdio),
+    }
+}
+
+/// Checks the address, where there is one.
+fn check_address(alloc: Global, address: Option<&str>) -> Result<(), PlanFault>
+    ensures { Answers (checked_address (option_copied address.entry)) result }
+{
+    match address {
+        Some(address) => {
+            if is_address(address.as_bytes()) {
+                Ok(())
+            } else {
+                Err(refused_as(bad_address(alloc, address)))
+            }
+        }
+        None => Ok(()),
+    }
+}
+
+/// The fault of an address.
+fn bad_address(alloc: Global, address: &str) -> Result<Usage, AllocError>
+    ensures { IfOk result (λ usage. usage ≡ Usage.BadAddress address.now) }
+{
+    Ok(Usage::BadAddress(Text::of(alloc, address.as_bytes())?))
 }
 
 /// Checks the prefix of names, and the path of a directory.

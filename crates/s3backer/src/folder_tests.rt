@@ -52,7 +52,7 @@ fn a_failed_rename_leaves_the_object(rt: HostRuntime) -> Result<(), Fail> {
 fn a_read_of_an_empty_disk_is_one_get(rt: HostRuntime) -> Result<(), Fail> {
     let alloc = rt.alloc();
     let link = empty_folder(alloc, Vec::from_array(alloc, [2])?);
-    let done = session(alloc, link, &[OPENING, READ_512, DISC], 4096)?;
+    let done = session(&rt, alloc, link, &[OPENING, READ_512, DISC], 4096)?;
     let wanted = joined(alloc, &[HANDSHAKE, OK_1, &[0; 512]])?;
     assert_eq!(rt; done.status, 0);
     assert_eq!(rt; output(&done), wanted.bytes());
@@ -72,7 +72,7 @@ fn a_read_of_an_empty_disk_is_one_get(rt: HostRuntime) -> Result<(), Fail> {
 fn a_read_of_a_folder_that_fails_is_eio(rt: HostRuntime) -> Result<(), Fail> {
     let alloc = rt.alloc();
     let link = empty_folder(alloc, Vec::from_array(alloc, [1])?);
-    let done = session(alloc, link, &[OPENING, READ_512, DISC], 4096)?;
+    let done = session(&rt, alloc, link, &[OPENING, READ_512, DISC], 4096)?;
     let wanted = joined(alloc, &[HANDSHAKE, EIO_1])?;
     assert_eq!(rt; output(&done), wanted.bytes());
     Ok(())
@@ -98,7 +98,7 @@ fn a_block_is_a_file_of_its_name(rt: HostRuntime) -> Result<(), Fail> {
     )?;
     let pieces = joined(alloc, &[OPENING, WRITE_512, &[0x41; 512], DISC])?;
     let link = empty_folder(alloc, Vec::new(alloc));
-    let done = session_of(alloc, words.as_slice(), link, pieces)?;
+    let done = session_of(&rt, alloc, words.as_slice(), link, pieces)?;
     assert_eq!(rt; done.status, 0);
     let folder = match done
         .world

@@ -1,6 +1,9 @@
 //! One disk of fixed size whose blocks are objects of a store, served over NBD.
 #![tactic(auto)]
 
+mod address;
+#[cfg(test)]
+mod address_tests;
 mod bucket;
 #[cfg(test)]
 mod bucket_tests;
@@ -35,7 +38,7 @@ fn main(rt: HostRuntime) -> ExitCode {
         Err(fault) => return refuse(&rt, &fault),
     };
     let mut world = HostWorld::new(rt);
-    let outcome = run(rt.alloc(), words.as_slice(), &mut world, NoTape);
+    let outcome = run(&rt, rt.alloc(), words.as_slice(), &mut world, NoTape);
     ExitCode::from(outcome.status)
 }
 

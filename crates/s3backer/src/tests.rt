@@ -4,7 +4,7 @@ ghost use Rattle.std.specs.Prelude.{◌≡◌, ◌≢◌, length};
 ghost use Rattle.sb_base.specs.Shapes.{IsSound};
 ghost use Rattle.sb_world.specs.Told.{IsUnused};
 
-use crate::plan::Plan;
+use crate::plan::{Form, Plan};
 use crate::rehearsal::{Rehearsal, rehearse};
 use crate::settings::SETTINGS;
 use crate::top::run_single;
@@ -15,14 +15,17 @@ use sb_fakes::{HandClock, MemoryConn, MemoryWorld, PlainStore, TimedStore};
 use sb_world::{Bench, Link, Meta, NoTape};
 use sb_zero::Zeros;
 use std::alloc::{AllocError, Global};
+use std::sync::Wait;
 use std::test::Fail;
+use std::thread::Threads;
+use std::time;
 
 const FLAGS: &[u8] = b"\x00\x00\x00\x03";
 
 pub(crate) const OPENING: &[u8] = b"\x00\x00\x00\x03IHAVEOPT\x00\x00\x00\x01\x00\x00\x00\x00";
 
 pub(crate) const HANDSHAKE: &[u8] =
-    b"NBDMAGICIHAVEOPT\x00\x03\x00\x00\x00\x00\x00\x01\x00\x00\x00\x6d";
+    b"NBDMAGICIHAVEOPT\x00\x03\x00\x00\x00\x00\x00\x01\x00\x00\x01\x6d";
 
 pub(crate) const DISC: &[u8] =
     b"\x25\x60\x95\x13\x00\x00\x00\x02\x00\x00\x00\x00\x00\x00\x00\x00\x00\x00\x00\x00\x00\x00\x00\x00\x00\x00\x00\x00";
@@ -44,7 +47,8 @@ pub(crate) fn joined(alloc: Global, pieces: &[&[u8]]) -> Result<Text, AllocError
 }
 
 /// A session of a disk of 64k over a link, whose client sends these pieces and is read in pieces of so many bytes.
-pub(crate) fn session<L: Link + Drop + Send>(
+pub(crate) fn session<R: Threads + Wait + time::Clock + Sync, L: Link + Drop + Send>(
+    rt: &R,
     alloc: Global,
     link: L,
     pieces: &[&[u8]],
@@ -55,7 +59,7 @@ pub(crate) fn session<L: Link + Drop + Send>(
 {
     let input = MemoryConn::source(joined(alloc, pieces)?, piece, Vec::new(alloc));
     let output = MemoryConn::sink(alloc, Vec::new(alloc));
-    session_over(alloc, link, input, output)
+    session_over(rt, alloc, link, input, output)
 }
 
 /// These words.
@@ -68,7 +72,8 @@ pub(crate) fn words_of(alloc: Global, words: &[&str]) -> Result<Vec<String>, All
 }
 
 /// A session of a disk of these words over a link, whose client sends these bytes.
-pub(crate) fn session_of<L: Link + Drop + Send>(
+pub(crate) fn session_of<R: Threads + Wait + time::Clock + Sync, L: Link + Drop + Send>(
+    rt: &R,
     alloc: Global,
     words: &[String],
     link: L,
@@ -77,6 +82,7 @@ pub(crate) fn session_of<L: Link + Drop + Send>(
     requires unused { IsUnused (L.log link) (L.faults link) }
 {
     rehearse(
+        rt,
         alloc,
         words,
         link,
@@ -88,7 +94,8 @@ pub(crate) fn session_of<L: Link + Drop + Send>(
 }
 
 /// A session of a disk of 64k over a link and these ends of a connection.
-pub(crate) fn session_over<L: Link + Drop + Send>(
+pub(crate) fn session_over<R: Threads + Wait + time::Clock + Sync, L: Link + Drop + Send>(
+    rt: &R,
     alloc: Global,
     link: L,
     input: MemoryConn,
@@ -98,6 +105,7 @@ pub(crate) fn session_over<L: Link + Drop + Send>(
 {
     let words = words_of(alloc, &["--stdio", "--test", "--size=64k", "disk"])?;
     rehearse(
+        rt,
         alloc,
         words.as_slice(),
         link,
@@ -149,7 +157,7 @@ pub(crate) fn errors<L: Link>(done: &Rehearsal<L>) -> &[u8] {
 #[test]
 fn a_session_ends_at_disc(rt: HostRuntime) -> Result<(), Fail> {
     let store = PlainStore::new(rt.alloc());
-    let done = session(rt.alloc(), store, &[OPENING, DISC], 4096)?;
+    let done = session(&rt, rt.alloc(), store, &[OPENING, DISC], 4096)?;
     assert_eq!(rt; done.status, 0);
     assert_eq!(rt; output(&done), HANDSHAKE);
     assert_eq!(rt; errors(&done).len(), 0);
@@ -161,7 +169,7 @@ fn an_input_in_single_bytes_gets_the_same_replies(rt: HostRuntime) -> Result<(),
     let wanted = joined(rt.alloc(), &[HANDSHAKE, OK_1, &[0; 512]])?;
     for piece in [1, 7, 4096] {
         let store = PlainStore::new(rt.alloc());
-        let done = session(rt.alloc(), store, &[OPENING, READ_512, DISC], piece)?;
+        let done = session(&rt, rt.alloc(), store, &[OPENING, READ_512, DISC], piece)?;
         assert_eq!(rt; done.status, 0);
         assert_eq!(rt; output(&done), wanted.bytes());
     }
@@ -172,7 +180,13 @@ fn an_input_in_single_bytes_gets_the_same_replies(rt: HostRuntime) -> Result<(),
 fn a_failed_get_is_eio_and_the_session_goes_on(rt: HostRuntime) -> Result<(), Fail> {
     let fails = Vec::from_array(rt.alloc(), [1])?;
     let link = failing_store(rt.alloc(), fails);
-    let done = session(rt.alloc(), link, &[OPENING, READ_512, READ_512, DISC], 4096)?;
+    let done = session(
+        &rt,
+        rt.alloc(),
+        link,
+        &[OPENING, READ_512, READ_512, DISC],
+        4096,
+    )?;
     let wanted = joined(rt.alloc(), &[HANDSHAKE, EIO_1, OK_1, &[0; 512]])?;
     assert_eq!(rt; done.status, 0);
     assert_eq!(rt; output(&done), wanted.bytes());
@@ -180,8 +194,14 @@ fn a_failed_get_is_eio_and_the_session_goes_on(rt: HostRuntime) -> Result<(), Fa
 }
 
 /// Whether a session of these pieces ends with this status and this line.
-fn ends_so(alloc: Global, pieces: &[&[u8]], status: u8, line: &[u8]) -> Result<bool, AllocError> {
-    let done = session(alloc, PlainStore::new(alloc), pieces, 4096)?;
+fn ends_so<R: Threads + Wait + time::Clock + Sync>(
+    rt: &R,
+    alloc: Global,
+    pieces: &[&[u8]],
+    status: u8,
+    line: &[u8],
+) -> Result<bool, AllocError> {
+    let done = session(rt, alloc, PlainStore::new(alloc), pieces, 4096)?;
     Ok(done.status == status && errors(&done) == line)
 }
 
@@ -218,7 +238,7 @@ fn each_end_of_a_session_has_its_status_and_its_line(rt: HostRuntime) -> Result<
         (&[FLAGS, b"IHAVEOPX"], 7, b"s3backer: session: magic\n"),
     ];
     for (pieces, status, line) in rows {
-        assert!(rt; ends_so(rt.alloc(), pieces, status, line)?);
+        assert!(rt; ends_so(&rt, rt.alloc(), pieces, status, line)?);
     }
     Ok(())
 }
@@ -234,6 +254,7 @@ const EPERM_4: &[u8] = b"\x67\x44\x66\x98\x00\x00\x00\x01\x00\x00\x00\x00\x00\x0
 fn a_read_only_disk_refuses_writes(rt: HostRuntime) -> Result<(), Fail> {
     let alloc = rt.alloc();
     let plan = Plan {
+        form: Form::Stdio,
         store: StorePlan::Dir {
             path: Text::of(alloc, b"disk")?,
         },
@@ -257,30 +278,37 @@ fn a_read_only_disk_refuses_writes(rt: HostRuntime) -> Result<(), Fail> {
         alloc, &plan, bench, NoTape,
     );
     assert_eq!(rt; status, 0);
-    let greeting = b"NBDMAGICIHAVEOPT\x00\x03\x00\x00\x00\x00\x00\x01\x00\x00\x00\x6f";
+    let greeting = b"NBDMAGICIHAVEOPT\x00\x03\x00\x00\x00\x00\x00\x01\x00\x00\x01\x6f";
     let wanted = joined(alloc, &[greeting.as_slice(), EPERM_4])?;
     assert_eq!(rt; bench.output.bytes(), wanted.bytes());
     Ok(())
 }
 
 /// Whether words are refused with this line.
-pub(crate) fn is_refused(alloc: Global, words: &[&str], line: &[u8]) -> Result<bool, AllocError> {
+pub(crate) fn is_refused<R: Threads + Wait + time::Clock + Sync>(
+    rt: &R,
+    alloc: Global,
+    words: &[&str],
+    line: &[u8],
+) -> Result<bool, AllocError> {
     let words = words_of(alloc, words)?;
     let sent = joined(alloc, &[OPENING, DISC])?;
-    let done = session_of(alloc, words.as_slice(), PlainStore::new(alloc), sent)?;
+    let done = session_of(rt, alloc, words.as_slice(), PlainStore::new(alloc), sent)?;
     let told = done.world.said.len() == 1 && done.world.said[0].bytes() == line;
     Ok(done.status == 2 && done.world.last.is_none() && told)
 }
 
 /// The line of words that are of no form.
 const FORM: &[u8] =
-    b"s3backer: usage: s3backer --stdio --test [--prefix=TEXT] [--blockHashPrefix] --size=SIZE DIR, or s3backer --stdio --baseURL=URL --accessId=ID --accessKey=KEY --size=SIZE BUCKET\n";
+    b"s3backer: usage: s3backer --stdio --test [--prefix=TEXT] [--blockHashPrefix] --size=SIZE DIR, or s3backer --test [--prefix=TEXT] [--blockHashPrefix] --size=SIZE DIR HOST:PORT, or s3backer --stdio --baseURL=URL --accessId=ID --accessKey=KEY --size=SIZE BUCKET\n";
 
 #[test]
 fn words_of_no_form_are_refused(rt: HostRuntime) -> Result<(), Fail> {
     let alloc = rt.alloc();
-    let forms: [&[&str]; 8] = [
+    let forms: [&[&str]; 10] = [
         &[],
+        &["--test", "--size=64k", "disk"],
+        &["--stdio", "--test", "--size=64k", "disk", "host:1"],
         &["--stdio", "--size=64k", "memory"],
         &["--test", "--stdio", "--size=64k", "disk"],
         &["--stdio", "--test", "--size=64k"],
@@ -297,7 +325,7 @@ fn words_of_no_form_are_refused(rt: HostRuntime) -> Result<(), Fail> {
         ],
     ];
     for words in forms {
-        assert!(rt; is_refused(alloc, words, FORM)?);
+        assert!(rt; is_refused(&rt, alloc, words, FORM)?);
     }
     Ok(())
 }
@@ -328,7 +356,7 @@ fn the_first_fault_of_values_is_told(rt: HostRuntime) -> Result<(), Fail> {
         ),
     ];
     for (words, line) in rows {
-        assert!(rt; is_refused(alloc, words, line)?);
+        assert!(rt; is_refused(&rt, alloc, words, line)?);
     }
     Ok(())
 }

@@ -7,13 +7,17 @@ use crate::tests::{DISC, OPENING, errors, failing_store, joined, output, words_o
 use crate::write_tests::{FLUSH, READ, WRITE, reply, request};
 use sb_fakes::{HandClock, MemoryConn, Show, TimedStore};
 use std::alloc::{AllocError, Global};
+use std::sync::Wait;
 use std::test::Fail;
+use std::thread::Threads;
+use std::time;
 
 /// How many bytes the handshake has.
 const GREETED: usize = 28;
 
 /// A session of a disk of 1,280 blocks over a store, by a clock that stands at 1,000 and moves by pauses, or not at all.
-fn session_in_time(
+fn session_in_time<R: Threads + Wait + time::Clock + Sync>(
+    rt: &R,
     alloc: Global,
     store: TimedStore,
     stalled: bool,
@@ -23,6 +27,7 @@ fn session_in_time(
 {
     let words = words_of(alloc, &["--stdio", "--test", "--size=5m", "disk"])?;
     rehearse(
+        rt,
         alloc,
         words.as_slice(),
         store,
@@ -52,7 +57,7 @@ fn a_store_that_stays_stale_is_error_5(rt: HostRuntime) -> Result<(), Fail> {
     let others = request(alloc, READ, 3, 4096, 4_096_000)?;
     let read = request(alloc, READ, 4, 0, 512)?;
     let asked = [OPENING, &write, &[0x42; 4096], &flush, &others, &read, DISC];
-    let done = session_in_time(alloc, store, false, &asked)?;
+    let done = session_in_time(&rt, alloc, store, false, &asked)?;
     let mut wanted = Vec::new(alloc);
     for cookie in 1..4 {
         wanted.extend_from_slice(&reply(alloc, 0, cookie)?)?;
@@ -73,7 +78,7 @@ fn a_clock_that_stands_still_is_status_11(rt: HostRuntime) -> Result<(), Fail> {
     let first = request(alloc, FLUSH, 2, 0, 0)?;
     let second = request(alloc, FLUSH, 3, 0, 0)?;
     let asked = [OPENING, &write, &[0x42; 4096], &first, &second, DISC];
-    let done = session_in_time(alloc, store, true, &asked)?;
+    let done = session_in_time(&rt, alloc, store, true, &asked)?;
     let mut wanted = Vec::new(alloc);
     for (cookie, error) in [(1, 0), (2, 5), (3, 5)] {
         wanted.extend_from_slice(&reply(alloc, error, cookie)?)?;

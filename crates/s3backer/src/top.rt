@@ -15,6 +15,7 @@ ghost use Rattle.s3backer.specs.Wordings.{SaysUsage};
 ghost use Rattle.s3backer.specs.Headline.{
   run_status,
   run_line,
+  flush_status,
   flush_line,
   store_fault_line,
   fault_line,
@@ -24,8 +25,21 @@ ghost use Rattle.s3backer.specs.Headline.{
   ServesSession,
   Serves,
   ServesBench,
+  SingleEnds,
+};
+ghost use Rattle.s3backer.specs.Runs.{
+  server_status,
+  server_line,
+  served_status,
+  served_line,
+  SaysAny,
+  ServerRuns,
   RunEnds,
 };
+ghost use Rattle.sb_server.specs.Mounts.{CanBeServed};
+ghost use Rattle.sb_server.specs.Servers.{ServerEnds};
+ghost use Rattle.sb_server.specs.Tellings.{telling as server_telling};
+ghost use Rattle.sb_world.specs.Benches.{HasPauses};
 
 use crate::plan::Plan;
 use crate::settings::SETTINGS;
@@ -37,16 +51,22 @@ use sb_core::Core;
 use sb_crew::{Alone, Calls, Desk, DeskRefused, FlushFault, Names};
 use sb_laws::{sound_flushes, sound_is_legal, sound_survives_crash, stale_is_young};
 use sb_nbd::NbdEnd;
+use sb_server::{Mount, ServeFault, ServerEnd, serve_mount};
 use sb_session::{Buffer, SessionEnd, serve_alone};
+use sb_turn::Pass;
 use sb_world::{Bench, Clock, Link, MakeFault, Meta, Sink, Source, Tape, World};
 use sb_zero::Zeros;
 use std::alloc::{AllocError, Global};
+use std::sync::Wait;
+use std::thread::Threads;
+use std::time;
 
-/// What a run leaves: the exit status, and the tape.
+/// What a run leaves: the exit status, the tape, and the pass of a server's disk, where one was made.
 #[derive(Drop)]
 pub struct Outcome<T> {
     pub status: u8,
     pub tape: T,
+    pub pass: Option<Pass<Core>>,
 }
 
 /// What serving a session leaves: the exit status, and what it was lent.
@@ -66,13 +86,20 @@ fn status_of(end: SessionEnd, flushed: Result<(), FlushFault>) -> u8
     ensures { result ≡ run_status end flushed }
 {
     match end {
-        SessionEnd::Disconnected | SessionEnd::Aborted | SessionEnd::Ended => match flushed {
-            Ok(()) => 0,
-            Err(FlushFault::StoreFault { status: _ }) => 3,
-            Err(FlushFault::ClockStalled { .. }) => 11,
-            Err(FlushFault::Memory) => 12,
-        },
+        SessionEnd::Disconnected | SessionEnd::Aborted | SessionEnd::Ended => flush_status(flushed),
         SessionEnd::NoSuchExport(_) | SessionEnd::Fault(_) | SessionEnd::Spent => 7,
+    }
+}
+
+/// The status of the last flush.
+fn flush_status(flushed: Result<(), FlushFault>) -> u8
+    ensures { result ≡ flush_status flushed }
+{
+    match flushed {
+        Ok(()) => 0,
+        Err(FlushFault::StoreFault { status: _ }) => 3,
+        Err(FlushFault::ClockStalled { .. }) => 11,
+        Err(FlushFault::Memory) => 12,
     }
 }
 
@@ -319,57 +346,188 @@ where
     (status, tape, bench)
 }
 
-/// Says that there is no bench.
-fn lacks_store<W: World, T>(world: &mut W, tape: T) -> Outcome<T>
-    ensures says { SaysLine (W.view world.old) (W.view world.new) (codes "s3backer: cannot reach the store\n") }
-    ensures outcome { result ≡ record { status = 3; tape = tape } }
+/// Says a line, and leaves this status.
+fn ends_unserved<W: World, T>(world: &mut W, line: &[u8], status: u8, tape: T) -> Outcome<T>
+    ensures says { SaysLine (W.view world.old) (W.view world.new) line.now }
+    ensures outcome { result ≡ record { status = status; tape = tape; pass = None } }
 {
-    world.say(b"s3backer: cannot reach the store\n");
-    Outcome { status: 3, tape }
+    world.say(line);
+    Outcome {
+        status,
+        tape,
+        pass: None,
+    }
 }
 
 /// Runs the program on these words in a world, with its history on the tape.
 ///
-/// The status is 0 where the session ended at DISC, at ABORT or between two messages and the store has all that was
-/// written, 2
+/// Over standard input and output the status is 0 where the session ended at DISC, at ABORT or between two messages and
+/// the store has all that was written, 2
 /// where the words aren't taken, 3 where the store can't be reached or the last flush failed, 7 where the session ended
 /// otherwise, 11 where the clock stood still at the last flush, and 12 for want of memory. A status other than 0 has
 /// its line on the bench's error sink, or is said where there is no bench.
-pub fn run<W: World, T: Tape + Drop>(
+///
+/// At an address the status is 0 where each client ended since no more connections come and the store has all that was
+/// written, 10 where the address can't be listened on or a client's listener failed, and else as above. The pass knows
+/// what happened to the disk.
+pub fn run<H: Threads + Wait + time::Clock + Sync, W: World, T: Tape + Drop>(
+    rt: &H,
     alloc: Global,
     words: &[String],
     world: &mut W,
     tape: T,
 ) -> Outcome<T>
 where
+    W::Listener: Drop,
     W::Link: Drop,
     W::Clock: Drop,
-    ensures { RunEnds (telling W.Link.Link W.Clock.Clock W.Source.Source W.Sink.Sink) (map string_bytes words.now)
-        (W.view world.old) (W.view world.new) (T.told tape) (T.told result.tape) result.status }
+    W::Source: Drop,
+    W::Sink: Drop,
+    W::Gate: Drop,
+    ensures { RunEnds (telling W.Link.Link W.Clock.Clock W.Source.Source W.Sink.Sink) (ServerEnds (server_telling
+        W.Listener.Listener W.Link.Link W.Clock.Clock W.Listener.Source.Source W.Listener.Sink.Sink)
+        W.Listener.Listener W.Link.Link W.Clock.Clock) (map string_bytes words.now) (W.view world.old)
+        (W.view world.new) (T.told tape) (T.told result.tape) result.status result.pass }
 {
     let plan = match plan(alloc, words) {
         Ok(plan) => plan,
         Err(PlanFault::Usage(usage)) => {
             say_usage(alloc, world, &usage);
-            return Outcome { status: 2, tape };
+            return Outcome {
+                status: 2,
+                tape,
+                pass: None,
+            };
         }
-        Err(PlanFault::Memory) => {
-            world.say(OUT_OF_MEMORY);
-            return Outcome { status: 12, tape };
-        }
+        Err(PlanFault::Memory) => return ends_unserved(world, OUT_OF_MEMORY, 12, tape),
     };
+    match plan.into_mount() {
+        Ok(mount) => {
+            let (status, pass) = run_server(rt, alloc, &mount, world);
+            Outcome { status, tape, pass }
+        }
+        Err(plan) => run_stdio(alloc, &plan, world, tape),
+    }
+}
+
+/// Runs the program over standard input and output.
+fn run_stdio<W: World, T: Tape + Drop>(
+    alloc: Global,
+    plan: &Plan,
+    world: &mut W,
+    tape: T,
+) -> Outcome<T>
+where
+    W::Link: Drop,
+    W::Clock: Drop,
+    requires sound { IsSound plan.now.geometry }
+    requires prefix { length plan.now.prefix ≤ MAX_PREFIX }
+    requires pauses { HasPauses (Some plan.now.store) }
+    ensures ends { SingleEnds (telling W.Link.Link W.Clock.Clock W.Source.Source W.Sink.Sink) plan.now
+        (W.view world.old) (W.view world.new) (T.told tape) (T.told result.tape) result.status }
+    ensures none { result.pass ≡ None }
+{
     match world.bench(Some(&plan.store), 1) {
         Ok(bench) => {
-            let (status, tape, bench) = run_single::<W, T>(alloc, &plan, bench, tape);
+            let (status, tape, bench) = run_single::<W, T>(alloc, plan, bench, tape);
             world.shut(bench);
-            Outcome { status, tape }
+            Outcome {
+                status,
+                tape,
+                pass: None,
+            }
         }
-        Err(MakeFault::Store) => lacks_store(world, tape),
-        Err(MakeFault::Listen) => lacks_store(world, tape),
-        Err(MakeFault::Memory) => {
-            world.say(OUT_OF_MEMORY);
-            Outcome { status: 12, tape }
+        Err(MakeFault::Store) => {
+            ends_unserved(world, b"s3backer: cannot reach the store\n", 3, tape)
         }
+        Err(MakeFault::Listen) => unreachable!(),
+        Err(MakeFault::Memory) => ends_unserved(world, OUT_OF_MEMORY, 12, tape),
+    }
+}
+
+/// Serves a disk at an address, and says how that failed. It leaves the status, and the pass that knows what happened to
+/// the disk.
+pub fn run_server<H: Threads + Wait + time::Clock + Sync, W: World>(
+    rt: &H,
+    alloc: Global,
+    mount: &Mount,
+    world: &mut W,
+) -> (u8, Option<Pass<Core>>)
+where
+    W::Listener: Drop,
+    W::Link: Drop,
+    W::Clock: Drop,
+    W::Source: Drop,
+    W::Sink: Drop,
+    W::Gate: Drop,
+    requires { CanBeServed mount.now }
+    ensures { ServerRuns (telling W.Link.Link W.Clock.Clock W.Source.Source W.Sink.Sink) (ServerEnds (server_telling
+        W.Listener.Listener W.Link.Link W.Clock.Clock W.Listener.Source.Source W.Listener.Sink.Sink)
+        W.Listener.Listener W.Link.Link W.Clock.Clock) mount.now (W.view world.old) (W.view world.new) result.0
+        result.1 }
+{
+    match serve_mount(rt, alloc, mount, world) {
+        ServerEnd::Unmade(fault) => {
+            world.say(unmade_line(fault));
+            (unmade_status(fault), None)
+        }
+        ServerEnd::Served {
+            pass,
+            result: served,
+        } => {
+            say_served(world, served);
+            (served_status(served), Some(pass))
+        }
+    }
+}
+
+/// The line that tells why no disk was made.
+fn unmade_line(fault: MakeFault) -> &'static [u8]
+    ensures { Some result.now ≡ server_line (ServerEnd.Unmade fault) }
+{
+    match fault {
+        MakeFault::Store => b"s3backer: cannot reach the store\n",
+        MakeFault::Listen => b"s3backer: listen fault\n",
+        MakeFault::Memory => OUT_OF_MEMORY,
+    }
+}
+
+/// The status of a server without a disk.
+fn unmade_status(fault: MakeFault) -> u8
+    ensures { result ≡ server_status (ServerEnd.Unmade fault) }
+{
+    match fault {
+        MakeFault::Store => 3,
+        MakeFault::Listen => 10,
+        MakeFault::Memory => 12,
+    }
+}
+
+/// Says how a server failed that had a disk.
+fn say_served<W: World>(world: &mut W, served: Result<(), ServeFault>)
+    ensures { SaysAny (served_line served) (W.view world.old) (W.view world.new) }
+{
+    match served {
+        Ok(()) => {}
+        Err(ServeFault::Listen) => world.say(b"s3backer: listen fault\n"),
+        Err(ServeFault::Flush(FlushFault::StoreFault { status })) => {
+            world.say(store_fault_line(status).as_str().as_bytes())
+        }
+        Err(ServeFault::Flush(FlushFault::ClockStalled { .. })) => {
+            world.say(b"s3backer: clock stands still\n")
+        }
+        Err(ServeFault::Flush(FlushFault::Memory)) => world.say(OUT_OF_MEMORY),
+    }
+}
+
+/// The status of a server that had a disk.
+fn served_status(served: Result<(), ServeFault>) -> u8
+    ensures { result ≡ served_status served }
+{
+    match served {
+        Ok(()) => 0,
+        Err(ServeFault::Listen) => 10,
+        Err(ServeFault::Flush(fault)) => flush_status(Err(fault)),
     }
 }
 

@@ -39,7 +39,7 @@ fn place_behind(text: &[u8]) -> Option<(&[u8], u16)>
 }
 
 /// How many bytes of a host's name stand at the front.
-fn host_length(text: &[u8]) -> usize
+pub(crate) fn host_length(text: &[u8]) -> usize
     ensures { result ≡ prefix_len is_host_byte text.now }
 {
     text.iter().take_while(|byte| is_host_byte(**byte)).count()
@@ -87,7 +87,7 @@ fn port_of(digits: &[u8]) -> Option<u16>
 }
 
 /// Whether all bytes are digits.
-fn are_digits(bytes: &[u8]) -> bool
+pub(crate) fn are_digits(bytes: &[u8]) -> bool
     ensures { result ≡ list_all is_ascii_digit bytes.now }
 {
     bytes.iter().all(|byte| byte.is_ascii_digit())

@@ -46,6 +46,7 @@ fn wording(alloc: Global, usage: &Usage) -> Result<Vec<u8>, AllocError>
             )
         }
         Usage::HttpsRefused => Vec::from_slice(alloc, b"--baseURL: https is not supported"),
+        Usage::BadAddress(address) => with_value(alloc, b"not HOST:PORT: ", address.bytes()),
         Usage::BadUrl(url) => with_value(
             alloc,
             b"--baseURL: not http://host/ or http://host:port/: ",
@@ -61,6 +62,9 @@ fn forms(alloc: Global) -> Result<Vec<u8>, AllocError>
     let mut text = Vec::from_slice(
         alloc,
         b"s3backer --stdio --test [--prefix=TEXT] [--blockHashPrefix] --size=SIZE DIR",
+    )?;
+    text.extend_from_slice(
+        b", or s3backer --test [--prefix=TEXT] [--blockHashPrefix] --size=SIZE DIR HOST:PORT",
     )?;
     text.extend_from_slice(
         b", or s3backer --stdio --baseURL=URL --accessId=ID --accessKey=KEY --size=SIZE BUCKET",

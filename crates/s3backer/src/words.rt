@@ -4,11 +4,11 @@ ghost use Rattle.std.specs.Prelude.{◌≡◌, ◌≤◌, IfOk, Some, string_byt
 ghost use Rattle.sb_base.specs.Shapes.{IsSound};
 ghost use Rattle.sb_base.specs.Sizes.{size_of};
 ghost use Rattle.sb_world.specs.Benches.{HasPauses};
-ghost use Rattle.std.specs.Option.{option_map};
+ghost use Rattle.std.specs.Option.{option_copied, option_map};
 ghost use Rattle.sb_names.specs.declared.names.TheConstants.{MAX_PREFIX};
 ghost use Rattle.s3backer.specs.Directories.{is_option, sized};
 ghost use Rattle.s3backer.specs.Words.{IsPlan, plan_of};
-ghost use Rattle.s3backer.specs.Read.{Answers, AreLast, Plans, ReadsWords, StripsWord, TakesValue, given_of, refused_as};
+ghost use Rattle.s3backer.specs.Read.{Answers, AreLast, ArePlaces, ArePlain, AreTwo, IsOnly, Plans, ReadsWords, StripsWord, TakesValue, given_of, refused_as};
 
 use crate::bucket::{BucketValues, plan_of_bucket, read_bucket};
 use crate::directory::{DirectoryValues, plan_of_directory, read_directory};
@@ -40,6 +40,8 @@ pub enum Usage {
     /// The base URL isn't `http://host/` or `http://host:port/`, with a host of letters, digits, `.` and `-`, and a port
     /// of 1 to 65,535.
     BadUrl(Text),
+    /// The address isn't `HOST:PORT`, with a host of letters, digits, `.` and `-`, and a port of 0 to 65,535.
+    BadAddress(Text),
 }
 
 /// Why there is no plan.
@@ -56,10 +58,11 @@ enum Values<'a> {
     Bucket(BucketValues<'a>),
 }
 
-/// Reads the words `--stdio --test [--prefix=TEXT] [--blockHashPrefix] --size=SIZE DIR` of a disk over a directory, or
+/// Reads the words `--stdio --test [--prefix=TEXT] [--blockHashPrefix] --size=SIZE DIR` of a disk over a directory, the
+/// same without `--stdio` and with `HOST:PORT` behind them of one that is served at an address, or
 /// `--stdio --baseURL=URL --accessId=ID --accessKey=KEY --size=SIZE BUCKET` of one over a bucket. Other words are
 /// `NotBuilt`. Then the first fault is told, in this order: a size that doesn't read is `BadSize`, one that no disk has is
-/// `Geometry`, and then come `BadPrefix`, `PrefixSlash`, `BadBucket`, `HttpsRefused` and `BadUrl`.
+/// `Geometry`, and then come `BadPrefix`, `PrefixSlash`, `BadBucket`, `HttpsRefused`, `BadUrl` and `BadAddress`.
 pub fn plan(alloc: Global, words: &[String]) -> Result<Plan, PlanFault>
     ensures plan { IsPlan (map string_bytes words.now) result }
     ensures sound { IfOk result (λ plan. IsSound plan.geometry) }
@@ -131,6 +134,60 @@ pub(crate) fn size_and_last(words: &[String]) -> Option<(&str, &str)>
     match words {
         [size, last] if !is_option(last.as_str()) => {
             Some((size.as_str().strip_prefix("--size=")?, last.as_str()))
+        }
+        _ => None,
+    }
+}
+
+/// The size, the directory and the address where there is one, if the words are just these and none but the first is an
+/// option. Over standard input and output there is none.
+pub(crate) fn size_and_places(words: &[String], stdio: bool) -> Option<(&str, &str, Option<&str>)>
+    ensures { ArePlaces stdio (map string_bytes words.now)
+        (option_map (λ x. (x.0.now, x.1.now, option_copied x.2)) result) }
+{
+    match take_value(words, "--size=") {
+        Some((size, places)) => match places_in(places, stdio) {
+            Some((directory, address)) => Some((size, directory, address)),
+            None => None,
+        },
+        None => None,
+    }
+}
+
+/// The directory and the address where there is one, if the words are just these and no options.
+fn places_in(words: &[String], stdio: bool) -> Option<(&str, Option<&str>)>
+    ensures { ArePlain stdio (map string_bytes words.now) (option_map (λ x. (x.0.now, option_copied x.1)) result) }
+{
+    if stdio {
+        match only_word(words) {
+            Some(directory) => Some((directory, None)),
+            None => None,
+        }
+    } else {
+        match two_words(words) {
+            Some((directory, address)) => Some((directory, Some(address))),
+            None => None,
+        }
+    }
+}
+
+/// The only word, if it is no option.
+fn only_word(words: &[String]) -> Option<&str>
+    ensures { IsOnly (map string_bytes words.now) (option_copied result) }
+{
+    match words {
+        [word] if !is_option(word.as_str()) => Some(word.as_str()),
+        _ => None,
+    }
+}
+
+/// The only two words, if they are no options.
+fn two_words(words: &[String]) -> Option<(&str, &str)>
+    ensures { AreTwo (map string_bytes words.now) (option_map (λ x. (x.0.now, x.1.now)) result) }
+{
+    match words {
+        [first, second] if !is_option(first.as_str()) && !is_option(second.as_str()) => {
+            Some((first.as_str(), second.as_str()))
         }
         _ => None,
     }

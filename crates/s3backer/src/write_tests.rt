@@ -62,6 +62,7 @@ fn what_was_written_is_read(rt: HostRuntime) -> Result<(), Fail> {
     let read = request(alloc, READ, 3, 4095, 2)?;
     let asked = joined(alloc, &[&write, &[0x41; 4096], &flush, &read])?;
     let done = session(
+        &rt,
         alloc,
         PlainStore::new(alloc),
         &[OPENING, asked.bytes(), DISC],
@@ -86,7 +87,7 @@ fn a_last_flush_that_fails_is_the_status(rt: HostRuntime) -> Result<(), Fail> {
     let asked = joined(alloc, &[&write, &[0x41; 4096]])?;
     let fails = Vec::from_array(alloc, [1])?;
     let link = failing_store(alloc, fails);
-    let done = session(alloc, link, &[OPENING, asked.bytes(), DISC], 4096)?;
+    let done = session(&rt, alloc, link, &[OPENING, asked.bytes(), DISC], 4096)?;
     let written = reply(alloc, 0, 1)?;
     let wanted = joined(alloc, &[HANDSHAKE, &written])?;
     assert_eq!(rt; done.status, 3);
@@ -232,7 +233,7 @@ fn a_failed_call_loses_nothing_that_was_flushed(rt: HostRuntime) -> Result<(), F
     for call in 1..10 {
         let fails = Vec::from_array(alloc, [call])?;
         let link = failing_store(alloc, fails);
-        let mut done = session(alloc, link, &[OPENING, asked.bytes(), DISC], 4096)?;
+        let mut done = session(&rt, alloc, link, &[OPENING, asked.bytes(), DISC], 4096)?;
         let first = error_at(output(&done), replies);
         let second = error_at(output(&done), replies + 16);
         let flush = error_at(output(&done), replies + 32);
@@ -383,7 +384,13 @@ fn random_requests_get_the_replies_of_an_array(rt: HostRuntime) -> Result<(), Fa
             }
         }
     }
-    let done = session(alloc, PlainStore::new(alloc), &[OPENING, &asked, DISC], 977)?;
+    let done = session(
+        &rt,
+        alloc,
+        PlainStore::new(alloc),
+        &[OPENING, &asked, DISC],
+        977,
+    )?;
     assert_eq!(rt; done.status, 0);
     assert!(rt; output(&done) == wanted.as_slice());
     Ok(())
@@ -403,7 +410,7 @@ fn a_read_that_fails_is_told(rt: HostRuntime) -> Result<(), Fail> {
         let fails = Vec::from_array(alloc, [call])?;
         let input = MemoryConn::source(short_session(alloc)?, 16, fails);
         let output = MemoryConn::sink(alloc, Vec::new(alloc));
-        let done = session_over(alloc, PlainStore::new(alloc), input, output)?;
+        let done = session_over(&rt, alloc, PlainStore::new(alloc), input, output)?;
         if done.status == 0 {
             assert!(rt; call > 8);
             return Ok(());
@@ -424,7 +431,7 @@ fn a_write_of_a_reply_that_fails_is_told(rt: HostRuntime) -> Result<(), Fail> {
         let fails = Vec::from_array(alloc, [call])?;
         let input = MemoryConn::source(short_session(alloc)?, 4096, Vec::new(alloc));
         let output = MemoryConn::sink(alloc, fails);
-        let done = session_over(alloc, PlainStore::new(alloc), input, output)?;
+        let done = session_over(&rt, alloc, PlainStore::new(alloc), input, output)?;
         if done.status == 0 {
             assert!(rt; call > 3);
             return Ok(());

@@ -8,7 +8,10 @@ use crate::write_tests::{TRIM, WRITE_ZEROES, request};
 use sb_base::{EntryKind, Text};
 use sb_fakes::{Object, TimedStore};
 use std::alloc::{AllocError, Global};
+use std::sync::Wait;
 use std::test::Fail;
+use std::thread::Threads;
+use std::time;
 
 /// A store that has these objects, each a block of `A`.
 fn store_of(alloc: Global, names: &[&[u8]]) -> Result<TimedStore, AllocError>
@@ -32,8 +35,14 @@ struct Touched {
 }
 
 /// What a session of one request does over a store that has these objects.
-fn session_over(alloc: Global, names: &[&[u8]], asked: &[u8]) -> Result<Touched, Fail> {
+fn session_over<R: Threads + Wait + time::Clock + Sync>(
+    rt: &R,
+    alloc: Global,
+    names: &[&[u8]],
+    asked: &[u8],
+) -> Result<Touched, Fail> {
     let done = session(
+        rt,
         alloc,
         store_of(alloc, names)?,
         &[OPENING, asked, DISC],
@@ -70,7 +79,7 @@ fn a_block_is_asked_for_only_where_a_part_of_it_gets_zeros(rt: HostRuntime) -> R
     ];
     for (kind, offset, length, gets, zeroed) in rows {
         let asked = request(alloc, kind, 1, offset, length)?;
-        let touched = session_over(alloc, TWO, asked.as_slice())?;
+        let touched = session_over(&rt, alloc, TWO, asked.as_slice())?;
         assert!(rt; touched.gets.as_slice() == gets);
         assert!(rt; touched.zeroed.as_slice() == zeroed);
     }
