@@ -2,21 +2,19 @@
 """Sees whether each block of a disk with many callers is a register. Usage: callers.py [PROGRAM [SEED]]
 
 The program of crates/bench_disks lets 16 threads read, write and flush at random, and tells each call with its begin and
-its end. No two writes write the same value, so that it can be decided for each block whether some order of its calls
-explains what the reads gave, where no call comes before one that ended before it began (Gibbons and Korach, 1997). A write
-that failed has changed nothing, so no read may give its value. In the end each object of the store has the value that was
+its end. A write that failed has changed nothing, so no read may give its value. In the end each object of the store has the value that was
 written last. It is tried over a store that always answers, over one that fails one request in eight, and over one that
 shows old versions too. Without PROGRAM it is built, without SEED the seed comes from the clock.
 """
 import collections, os, subprocess, sys, time
 from expecting import ends, expect
+from registers import Call, faults, last_values
 
 CRATE = os.path.join(os.path.dirname(os.path.dirname(os.path.abspath(__file__))), "crates", "bench_disks")
 THREADS, ROUNDS = 16, 150
 # The rounds, one request in how many fails, and for how many milliseconds old versions are shown.
 TRIALS = {"a store that answers": (400, 0, 0), "a store that fails": (150, 8, 0), "old versions": (100, 0, 15),
           "old versions and faults": (60, 8, 15)}
-Call = collections.namedtuple("Call", "kind block value begun ended outcome")
 
 
 def told(program, rounds, seed, fails, lag):
@@ -31,42 +29,6 @@ def told(program, rounds, seed, fails, lag):
         else:
             calls.append(Call(first, *map(int, rest[:4]), rest[4]))
     return calls, objects
-
-
-def zones(calls):
-    """For each value of a block the first end of its calls and their last begin."""
-    # each block is zeros before the first call
-    zones = {0: (-1, -1)}
-    for call in calls:
-        end, begin = zones.get(call.value, (call.ended, call.begun))
-        zones[call.value] = min(end, call.ended), max(begin, call.begun)
-    return zones
-
-
-def faults(calls):
-    """What is wrong with the good calls of one block."""
-    writes = {call.value: call for call in calls if call.kind == "write"}
-    for call in calls:
-        if call.kind == "read" and call.value != 0:
-            if call.value not in writes:
-                yield f"a read gave {call.value}, which no good write wrote"
-            elif call.ended < writes[call.value].begun:
-                yield f"a read gave {call.value} before it was written"
-    forward = sorted((end, begin) for end, begin in zones(calls).values() if end < begin)
-    backward = [(begin, end) for end, begin in zones(calls).values() if begin <= end]
-    for (_, last), (first, _) in zip(forward, forward[1:]):
-        if first <= last:
-            yield f"two values were both seen before and behind {first}"
-    for begin, end in backward:
-        if any(first < begin and end < last for first, last in forward):
-            yield f"a value was seen from {begin} to {end}, while another one was seen before and behind"
-
-
-def last_values(calls):
-    """The values that a block may have in the end: those whose calls no other write's calls are behind."""
-    found = zones(calls)
-    return {value for value, (end, _) in found.items()
-            if not any(end < writes for writes in (call.begun for call in calls if call.kind == "write"))}
 
 
 def tried(name, program, rounds, seed, fails, lag):

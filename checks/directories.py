@@ -30,7 +30,7 @@ class Client:
         self.cookie = 0
         self.send(OPEN)
         greeting = self.receive(28)
-        expect("the greeting", (greeting[:18], greeting[26:]), (b"NBDMAGICIHAVEOPT\0\3", b"\0\x6d"))
+        expect("the greeting", (greeting[:18], greeting[26:]), (b"NBDMAGICIHAVEOPT\0\3", b"\1\x6d"))
         self.size = int.from_bytes(greeting[18:26], "big")
 
     def send(self, given):

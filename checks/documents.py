@@ -10,7 +10,7 @@ import os, re, shutil, subprocess, sys, tempfile
 
 program = os.path.abspath(sys.argv[1])
 top = os.path.dirname(os.path.dirname(os.path.abspath(__file__)))
-TOOLS = ["nbdsh", "xxd", "cmp", "head", "printf", "ls", "mkfs.ext4", "e2fsck", "qemu-img"]
+TOOLS = ["nbdsh", "xxd", "cmp", "head", "printf", "ls", "mkfs.ext4", "e2fsck", "qemu-img", "nbdcopy"]
 # the system's own Python has the module that nbdsh asks for
 ENVIRONMENT = {**os.environ, "PATH": "/usr/bin:" + os.environ.get("PATH", "")}
 failed = 0

@@ -45,7 +45,7 @@ def check(name, client, protocol="newstyle-fixed"):
     expect(f"{name}: protocol", client.get_protocol(), protocol)
     expect(f"{name}: size", client.get_size(), 1 << 20)
     expect(f"{name}: flush, FUA, read-only", (client.can_flush(), client.can_fua(), client.is_read_only()), (True, True, False))
-    expect(f"{name}: TRIM, ZEROES, several clients", (client.can_trim(), client.can_zero(), client.can_multi_conn()), (True, True, False))
+    expect(f"{name}: TRIM, ZEROES, several clients", (client.can_trim(), client.can_zero(), client.can_multi_conn()), (True, True, True))
     client.pwrite(b"A" * 5000, 4000, nbd.CMD_FLAG_FUA)
     expect(f"{name}: what was written", bytes(client.pread(5002, 3999)), b"\0" + b"A" * 5000 + b"\0")
     client.flush()

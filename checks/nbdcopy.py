@@ -1,8 +1,8 @@
 #!/usr/bin/env python3
 """Copies images of file systems into disks of the built program and back, by nbdcopy. Usage: nbdcopy.py PROGRAM
 
-The holes of an image are written as zeros, over blocks that are new and over blocks that have other bytes. Where nbdcopy or
-mkfs.ext4 isn't installed, the script prints that it is skipped.
+Each run serves one connection, so nbdcopy is told to make one. The holes of an image are written as zeros, over blocks that are new
+and over blocks that have other bytes. Where nbdcopy or mkfs.ext4 isn't installed, the script prints that it is skipped.
 """
 import filecmp, os, shutil, socket, subprocess, sys, tempfile, threading
 
@@ -44,7 +44,7 @@ class Disk:
 
 
 def copy(source, target):
-    done = subprocess.run([TOOLS["nbdcopy"], source, target], capture_output=True, timeout=240)
+    done = subprocess.run([TOOLS["nbdcopy"], "--connections=1", source, target], capture_output=True, timeout=240)
     expect("nbdcopy", (done.returncode, done.stderr), (0, b""))
 
 

@@ -17,7 +17,7 @@ FUA, NO_HOLE = 1, 2
 BLOCK = 4096
 EINVAL, ENOSPC = 22, 28
 LARGEST, LARGEST_OPTION = 33554432, 65536
-FLAGS = bytes.fromhex("006d")
+FLAGS = bytes.fromhex("016d")
 
 
 def option(number, body=b""):
