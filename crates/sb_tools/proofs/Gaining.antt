@@ -1,6 +1,10 @@
 -- What a log gained in one part of a call and in the next.
 use Rattle.std.proofs.Common.{ℕ, ◌≡◌, ◌≤◌, List, [], ◌∷◌, ◌++◌, Option, refl, sym, ap, subst, ◌∙◌, append_assoc, arith}
+use Rattle.std.specs.Prelude.{Result, Err}
 use Rattle.sb_world.specs.Told.{Gains, Rose, CountsFaults}
+use Rattle.sb_tools.specs.Faults.{IsStoreFault}
+use Rattle.sb_tools.specs.declared.fault.ToolFault.{ToolFault}
+use Rattle.sb_tools.specs.declared.fault.ToolFault.TheVariants as fault
 
 -- nothing was gained
 pub gains_nothing : {X : Type 0} (list : Option (List X)) → Gains list list []
@@ -31,3 +35,25 @@ counts_join {before} {between} {now} early counts by = record {
       let rose : Rose between now = counts.rises (by fails) in
       omega arith;
 }
+
+-- a count rose in the last part of a call
+pub counts_on : {before between now : ℕ} {late whole : Type 0} → before ≤ between → CountsFaults between now late
+    → (whole → late) → CountsFaults before now whole
+counts_on {before} {between} {now} early counts by = record {
+  later = let later : between ≤ now = counts.later in omega arith;
+  rises = λ fails. let rose : Rose between now = counts.rises (by fails) in omega arith;
+}
+
+-- a count stood in a call that didn't fail so
+pub counts_none : {before now : ℕ} {whole : Type 0} → before ≤ now → (whole → ⊥) → CountsFaults before now whole
+counts_none later never = record { later = later; rises = λ fails. absurd (never fails) }
+
+-- two answers with one fault
+pub err_is : {T : Type 0} (one other : ToolFault) → ◌≡◌ {A = Result T ToolFault} (Err one) (Err other)
+    → one ≡ other
+err_is one other e = cc
+
+-- an answer with the fault of another
+pub fails_alike : {T X : Type 0} (failed : ToolFault) → IsStoreFault {T = T} (Err failed)
+    → IsStoreFault {T = X} (Err failed)
+fails_alike failed fails = (fails.0, ap Err (err_is failed (fault.StoreFault fails.0) fails.1))

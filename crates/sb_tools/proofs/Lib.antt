@@ -3,3 +3,8 @@ pub mod Gaining
 pub mod Taking
 pub mod Numbers
 pub mod Answering
+pub mod Ordering
+pub mod Lines
+pub mod Pages
+pub mod Showing
+pub mod Counting

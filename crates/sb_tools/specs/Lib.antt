@@ -5,3 +5,5 @@ pub mod Listings
 pub mod Tokens
 pub mod Questions
 pub mod Detection
+pub mod Pages
+pub mod Showing

@@ -1,12 +1,14 @@
 -- Listings: the names of a bucket that begin with a prefix, page by page.
-use Rattle.std.specs.Prelude.{ℕ, ◌≡◌, ◌<◌, ◌^◌, Bool, true, false, if◌then◌else◌, List, [], ◌∷◌, ◌++◌, length, Option, Some, None}
+use Rattle.std.specs.Prelude.{ℕ, ◌≡◌, ◌<◌, ◌^◌, Bool, true, false, if◌then◌else◌, List, [], ◌∷◌, ◌++◌, length, Option, Some, None, Result, Ok, Err, IfOk}
 use Rattle.std.specs.Ordering.{nat_cmp, is_gt}
 use Rattle.std.specs.Cmp.Lexicographic.{slice_cmp}
 use Rattle.sb_world.specs.declared.link.Call.{Call}
 use Rattle.sb_world.specs.declared.link.Call.TheVariants as call
 use Rattle.sb_world.specs.declared.link.LinkFault.{LinkFault}
 use Rattle.sb_world.specs.declared.link.LinkFault.TheVariants as link
+use Rattle.sb_world.specs.declared.link.ListReply.{ListReply}
 use Rattle.sb_world.specs.declared.link.ListReply.TheVariants as listed
+use Rattle.sb_tools.specs.Faults.{fault_by}
 use Rattle.sb_tools.specs.declared.fault.ToolFault.{ToolFault}
 use Rattle.sb_tools.specs.declared.fault.ToolFault.TheVariants as fault
 
@@ -34,6 +36,24 @@ fallen_in before (name ∷ names) = if is_above before name then fallen_in name 
 abbrev pub disorder_in : List ℕ → List (List ℕ) → Bool → Option (List ℕ)
 disorder_in before [] true = Some []
 disorder_in before names more = fallen_in before names
+
+-- whether more follow a page, unless something in it is out of order
+abbrev pub more_unless : Bool → Option (List ℕ) → Result Bool ToolFault
+more_unless more None = Ok more
+more_unless more (Some name) = Err (fault.BadOrder name)
+
+-- whether more follow the page behind a name, by the reply to the request for it
+abbrev pub more_by_reply : List ℕ → ListReply → Result Bool ToolFault
+more_by_reply marker (listed.Names names more) = more_unless more (disorder_in marker names more)
+more_by_reply marker (listed.Fault failure) = Err (fault_by failure)
+
+-- the page behind a name was asked for, by one request, and has these names where it came
+pub record AsksPage (prefix marker : List ℕ) (result : Result Bool ToolFault) (names : List (List ℕ)) (calls : List Call)
+    : Type 0 where
+  pub reply : ListReply
+  pub asked : calls ≡ call.List prefix marker reply ∷ []
+  pub answer : result ≡ more_by_reply marker reply
+  pub page : IfOk result (λ more. reply ≡ listed.Names names more)
 
 -- the names of pages, the newest page first, in the order in which they came
 abbrev pub names_of : List Listed → List (List ℕ)

@@ -95,7 +95,7 @@ fn fault_of_token(body: [u8; 8]) -> ToolFault
 }
 
 /// A number in eight lower-case hex digits.
-fn digits(value: u32) -> [u8; 8]
+pub(crate) fn digits(value: u32) -> [u8; 8]
     ensures { result ≡ digits_of value }
 {
     let mut digits = [0; 8];
