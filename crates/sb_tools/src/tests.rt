@@ -1,6 +1,6 @@
 //! The tools over objects in memory.
 
-use crate::{ToolFault, confirm, detect, drop_token, take_token};
+use crate::{ToolFault, confirm, detect, drop_token, show_blocks, take_token};
 use sb_base::Text;
 use sb_fakes::{MemoryConn, PlainStore};
 use sb_world::{Got, Link, Meta};
@@ -79,6 +79,20 @@ fn a_disk_is_detected_by_its_first_block(rt: HostRuntime) -> Result<(), Fail> {
     let mut bare = store_with(rt.alloc(), b"00000000", b"", None);
     let missing = detect(rt.alloc(), &mut bare, "", false);
     assert!(rt; matches!(missing, Err(ToolFault::NoGeometry)));
+    Ok(())
+}
+
+#[test]
+fn blocks_are_shown_in_the_order_of_their_names(rt: HostRuntime) -> Result<(), Fail> {
+    let alloc = rt.alloc();
+    let mut store = store_with(alloc, b"v.0000000a", b"", None);
+    for name in [b"v.00000001", b"v.0000000A", b"w.00000002"] {
+        let _kept = store.put(name, b"", None);
+    }
+    let mut sink = MemoryConn::sink(alloc, Vec::new(alloc));
+    let shown = show_blocks(alloc, &mut store, "v.", false, &mut sink);
+    assert!(rt; matches!(shown, Ok(2)));
+    assert!(rt; sink.bytes() == b"00000001\n0000000a\n".as_slice());
     Ok(())
 }
 
