@@ -141,7 +141,7 @@ fn requests_are_answered_by_the_table(rt: HostRuntime) -> Result<(), Fail> {
             true,
             &[FLAGS, EXPORT_NAME, WRITE_ABC, DISC],
             &[
-                b"\x00\x00\x00\x00\x00\x01\x00\x00\x00\x6f",
+                b"\x00\x00\x00\x00\x00\x01\x00\x00\x01\x6f",
                 b"\x67\x44\x66\x98\x00\x00\x00\x01\x00\x00\x00\x00\x00\x00\x00\x04",
             ],
             SessionEnd::Disconnected,
